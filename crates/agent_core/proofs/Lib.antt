@@ -1,0 +1,10 @@
+pub mod Trees
+pub mod Numbering
+pub mod OneStore
+pub mod Told
+pub mod Tests
+pub mod Rows
+pub mod Listings
+pub mod Begins
+pub mod ListingTrees
+pub mod Preorders

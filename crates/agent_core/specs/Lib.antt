@@ -1,0 +1,9 @@
+pub mod Programs
+pub mod Agents
+pub mod Listing
+pub mod Names
+pub mod Facts
+pub mod Stores
+pub mod Rests
+pub mod Observed
+pub mod Outputs

@@ -1,0 +1,55 @@
+-- Valuation of a cell that entail the same tokens are one value.
+use Rattle.std.proofs.Common.{◌≡◌, Bool, true, false, ◌&&◌, ℤ, refl, sym, ap, ◌∙◌, arith}
+use Rattle.std.specs.Prelude.{◌≤ℤ◌, IsTrue, int_le}
+use Rattle.std.proofs.lemmas.Int.{ints}
+use Rattle.token_system.specs.declared.cell.Kind.{Kind}
+use Rattle.token_system.specs.declared.cell.Kind.TheVariants as kinds
+use Rattle.token_system.specs.declared.cell.Token.{Token}
+use Rattle.token_system.specs.declared.cell.Token.TheVariants.{On, Off, AtLeast, AtMost, Clash}
+use Rattle.token_system.specs.declared.cell.Value.{Value}
+use Rattle.token_system.specs.declared.cell.Value.TheVariants as values
+use Rattle.token_system.specs.Domain.{is_bound, is_cell}
+use Rattle.token_system.specs.Tokens.{kind_fits, value_entails, IsProper}
+use Rattle.token_system.specs.Stores.{WithinDomain}
+
+-- y entails what x entails, of what fits the kind
+abbrev pub Covers : Kind → Value → Value → Type 0
+Covers k x y = (t : Token) → IsTrue (kind_fits k t) → IsTrue (value_entails x t) → IsTrue (value_entails y t)
+
+pub true_false : true ≡ false → ⊥
+true_false e = cc
+
+same_bools : (a b : Bool) → (IsTrue a → IsTrue b) → (IsTrue b → IsTrue a) → a ≡ b
+same_bools true true f g = refl
+same_bools true false f g = sym (f refl)
+same_bools false true f g = g refl
+same_bools false false f g = refl
+
+pub within_bound : (a lo b hi : ℤ) → IsTrue (is_bound a && is_bound b && int_le a b) → a ≤ℤ lo → lo ≤ℤ hi → hi ≤ℤ b → IsTrue (is_bound lo) × IsTrue (is_bound hi)
+within_bound a lo b hi c p q r = (grind (arith, ints), grind (arith, ints))
+
+same_ints : (a b : ℤ) → IsTrue (int_le a b) → IsTrue (int_le b a) → a ≡ b
+same_ints a b p q = grind (arith, ints)
+
+pub le_itself : (a : ℤ) → IsTrue (int_le a a)
+le_itself a = grind (arith, ints)
+
+pub same_tokens : (k : Kind) (least most : ℤ) (x y : Value) → IsTrue (is_cell k least most)
+    → WithinDomain least most k x → IsProper x → WithinDomain least most k y → IsProper y
+    → Covers k x y → Covers k y x → x ≡ y
+same_tokens k least most values.Clash values.Clash c dx px dy py xy yx = refl
+same_tokens kinds.Signal least most (values.Signal a b) (values.Signal c d) cell dx px dy py xy yx =
+    ap (λ v. values.Signal v b) (same_bools a c (xy On refl) (yx On refl)) ∙ ap (values.Signal c) (same_bools b d (xy Off refl) (yx Off refl))
+same_tokens kinds.Signal least most (values.Signal a b) values.Clash cell dx px dy py xy yx = absurd (true_false (sym (yx Clash refl refl)))
+same_tokens kinds.Signal least most values.Clash (values.Signal a b) cell dx px dy py xy yx = absurd (true_false (sym (xy Clash refl refl)))
+same_tokens kinds.Number least most (values.Number a b) values.Clash cell dx px dy py xy yx = absurd (true_false (sym (yx Clash refl refl)))
+same_tokens kinds.Number least most values.Clash (values.Number a b) cell dx px dy py xy yx = absurd (true_false (sym (xy Clash refl refl)))
+same_tokens kinds.Number least most (values.Number a b) (values.Number c d) cell dx px dy py xy yx =
+    let u = within_bound least a most b cell dx.0 px dx.1 in
+    let v = within_bound least c most d cell dy.0 py dy.1 in
+    ap (λ n. values.Number n b) (same_ints a c (xy (AtLeast a) u.0 (le_itself a)) (yx (AtLeast c) v.0 (le_itself c)))
+    ∙ ap (values.Number c) (same_ints b d (yx (AtMost d) v.1 (le_itself d)) (xy (AtMost b) u.1 (le_itself b)))
+same_tokens kinds.Signal least most (values.Number a b) y cell dx px dy py xy yx = absurd dx
+same_tokens kinds.Number least most (values.Signal a b) y cell dx px dy py xy yx = absurd dx
+same_tokens kinds.Signal least most x (values.Number a b) cell dx px dy py xy yx = absurd dy
+same_tokens kinds.Number least most x (values.Signal a b) cell dx px dy py xy yx = absurd dy
