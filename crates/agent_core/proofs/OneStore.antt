@@ -9,9 +9,9 @@ use Rattle.token_system.specs.declared.cell.Value.{Value}
 use Rattle.token_system.specs.declared.name.CellName.{CellName}
 use Rattle.token_system.specs.declared.name.CellName.TheVariants.{Declared, Local}
 use Rattle.token_system.specs.Domain.{is_cell}
-use Rattle.token_system.specs.Tokens.{IsProper, bottom_of, bottom_for}
+use Rattle.token_system.specs.Values.{IsProper, bottom_of, bottom_for, WithinDomain}
 use Rattle.token_system.specs.Names.{name_total, name_cmp-IsAntisymmetric}
-use Rattle.token_system.specs.Stores.{Valuation, value_at, WithinDomain}
+use Rattle.token_system.specs.Stores.{Valuation, value_at}
 use Rattle.token_system.proofs.Alike.{same_tokens}
 use Rattle.agent_core.specs.declared.node.CellDecl.{CellDecl}
 use Rattle.agent_core.specs.Programs.{CoreProgram}
@@ -38,7 +38,7 @@ value_at-fits p s n d is named = go (get s n) refl
     go (Some v) e =
         let h = is n v e in
         let same : h.0 ≡ d = Names-one p n h.0 d h.1 named in
-        subst (λ (c : CellDecl). WithinDomain c.cell.lo c.cell.hi c.cell.kind v × IsProper v) same (h.2.domain, h.2.proper)
+        subst (λ (c : CellDecl). WithinDomain c.cell.lo c.cell.hi c.cell.kind v × IsProper v) same (h.2.value.domain, h.2.value.proper)
 
 -- the stores have one value at a name
 value_at-one : (p : CoreProgram) (u v : Valuation) (n : CellName) (d : CellDecl) → IsStore p u → IsStore p v → Below p u v → Below p v u → Names p n d → value_at u n d.cell ≡ value_at v n d.cell

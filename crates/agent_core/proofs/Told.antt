@@ -15,9 +15,10 @@ use Rattle.token_system.specs.declared.cell.Token.TheVariants.{On, Off, AtLeast,
 use Rattle.token_system.specs.declared.cell.Value.{Value}
 use Rattle.token_system.specs.declared.cell.Value.TheVariants as values
 use Rattle.token_system.specs.declared.name.CellName.{CellName}
-use Rattle.token_system.specs.Tokens.{Fits, bottom_of, bottom_for, value_with, value_entails, value_eq}
+use Rattle.token_system.specs.Tokens.{Fits}
+use Rattle.token_system.specs.Values.{bottom_of, bottom_for, value_with, value_entails, value_eq, WithinDomain}
 use Rattle.token_system.specs.Names.{name_cmp, name_total, name_cmp-IsAntisymmetric}
-use Rattle.token_system.specs.Stores.{Valuation, value_at, store_entails, told, WithinDomain, IsValueOf}
+use Rattle.token_system.specs.Stores.{Valuation, value_at, store_entails, told, IsKeptFor}
 use Rattle.token_system.proofs.Alike.{Covers, true_false}
 use Rattle.token_system.proofs.Adding.{Added, added, value_eq-true, value_eq-itself}
 use Rattle.agent_core.specs.declared.node.CellDecl.{CellDecl}
@@ -93,15 +94,14 @@ module _ (p : CoreProgram) (s : Valuation) (n : CellName) (d : CellDecl) (t : To
   is_store true eb q y e = is q y e
   is_store false eb q y e = go (eq_by_cmp name_cmp q n) refl
     where
-      go : (r : Bool) → eq_by_cmp name_cmp q n ≡ r → (f : CellDecl) × Names p q f × IsValueOf f.cell y
+      go : (r : Bool) → eq_by_cmp name_cmp q n ≡ r → (f : CellDecl) × Names p q f × IsKeptFor f.cell y
       go true r =
           let got : Some (value_with (value_at s n d.cell) t) ≡ Some y = sym (get-insert name_total s n (value_with (value_at s n d.cell) t) q ∙ ap (λ b. cond b (Some (value_with (value_at s n d.cell) t)) (get s q)) r) ∙ e in
           let same : value_with (value_at s n d.cell) t ≡ y = cc in (
             d,
             subst (λ (m : CellName). Names p m d) (sym (equal_names q n r)) named,
-            subst (IsValueOf d.cell) same (record {
-              domain = added_here.domain;
-              proper = added_here.proper;
+            subst (IsKeptFor d.cell) same (record {
+              value = record { domain = added_here.domain; proper = added_here.proper };
               not_bottom = λ h. true_false (sym (subst (λ (z : Value). value_eq z (bottom_of d.cell) ≡ true) (sym h) (value_eq-itself (bottom_of d.cell))) ∙ eb);
             }),
           )

@@ -6,14 +6,14 @@ use Rattle.token_system.specs.declared.cell.Value.{Value}
 use Rattle.token_system.specs.declared.name.CellName.{CellName}
 use Rattle.token_system.specs.declared.name.CellName.TheVariants.{Declared}
 use Rattle.token_system.specs.Tokens.{Fits}
-use Rattle.token_system.specs.Stores.{Valuation, store_entails, IsValueOf}
+use Rattle.token_system.specs.Stores.{Valuation, store_entails, IsKeptFor}
 use Rattle.agent_core.specs.declared.node.CellDecl.{CellDecl}
 use Rattle.agent_core.specs.Programs.{CoreProgram}
 use Rattle.agent_core.specs.Names.{Names}
 
 -- each name that the store keeps is one of the program's, with a value of its cell
 abbrev pub IsStore : CoreProgram → Valuation → Type 0
-IsStore p s = (n : CellName) (v : Value) → get s n ≡ Some v → (d : CellDecl) × Names p n d × IsValueOf d.cell v
+IsStore p s = (n : CellName) (v : Value) → get s n ≡ Some v → (d : CellDecl) × Names p n d × IsKeptFor d.cell v
 
 -- an input is a store over the declared cells alone
 pub record IsInput (p : CoreProgram) (s : Valuation) : Type 0 where

@@ -9,12 +9,12 @@ use Rattle.token_system.specs.declared.cell.Token.TheVariants.{On, Off, AtLeast,
 use Rattle.token_system.specs.declared.cell.Value.{Value}
 use Rattle.token_system.specs.declared.cell.Value.TheVariants as values
 use Rattle.token_system.specs.Domain.{is_bound, is_cell}
-use Rattle.token_system.specs.Tokens.{kind_fits, value_entails, IsProper}
-use Rattle.token_system.specs.Stores.{WithinDomain}
+use Rattle.token_system.specs.Tokens.{fits_kind}
+use Rattle.token_system.specs.Values.{value_entails, IsProper, WithinDomain}
 
 -- y entails what x entails, of what fits the kind
 abbrev pub Covers : Kind → Value → Value → Type 0
-Covers k x y = (t : Token) → IsTrue (kind_fits k t) → IsTrue (value_entails x t) → IsTrue (value_entails y t)
+Covers k x y = (t : Token) → IsTrue (fits_kind k t) → IsTrue (value_entails x t) → IsTrue (value_entails y t)
 
 pub true_false : true ≡ false → ⊥
 true_false e = cc
