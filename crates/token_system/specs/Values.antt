@@ -1,5 +1,5 @@
 -- Values: each stands for all tokens of a cell that some tokens entail. A value is what this project keeps in their place.
-use Rattle.std.specs.Prelude.{◌≤ℤ◌, Bool, true, false, ◌&&◌, not, cond, ℤ, List, IsTrue, int_le, int_lt}
+use Rattle.std.specs.Prelude.{◌↔◌, ◌≤ℤ◌, Bool, true, false, ◌&&◌, not, cond, ℤ, List, IsTrue, int_le, int_lt}
 use Rattle.std.specs.Ordering.{int_eq}
 use Rattle.token_system.specs.declared.cell.Kind.{Kind}
 use Rattle.token_system.specs.declared.cell.Kind.TheVariants as kinds
@@ -26,7 +26,7 @@ value_entails (values.Number lo hi) Clash = false
 
 -- the value stands for the tokens: it entails what they entail, of what fits the cell
 abbrev pub StandsFor : Cell → Value → List Token → Type 0
-StandsFor c v ts = (t : Token) → Fits c t → (IsTrue (value_entails v t) → TokensEntail c ts t) × (TokensEntail c ts t → IsTrue (value_entails v t))
+StandsFor c v ts = (t : Token) → Fits c t → (IsTrue (value_entails v t)) ↔ (TokensEntail c ts t)
 
 -- a clash is written only as a clash
 abbrev pub IsProper : Value → Type 0
