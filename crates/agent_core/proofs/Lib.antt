@@ -1,10 +1,10 @@
+pub mod Parts
 pub mod Trees
-pub mod Numbering
+pub mod Standing
+pub mod ListingTrees
+pub mod Places
+pub mod Begins
 pub mod OneStore
 pub mod Told
 pub mod Tests
 pub mod Rows
-pub mod Listings
-pub mod Begins
-pub mod ListingTrees
-pub mod Preorders
