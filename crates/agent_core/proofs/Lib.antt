@@ -4,6 +4,8 @@ pub mod Standing
 pub mod ListingTrees
 pub mod Places
 pub mod Begins
+pub mod NewNodes
+pub mod Scopes
 pub mod OneStore
 pub mod Told
 pub mod Tests

@@ -3,6 +3,7 @@ pub mod Agents
 pub mod Listing
 pub mod Names
 pub mod Facts
+pub mod Scope
 pub mod Stores
 pub mod Rests
 pub mod Observed
