@@ -6,6 +6,8 @@ pub mod Places
 pub mod Begins
 pub mod NewNodes
 pub mod Scopes
+pub mod ScopeTests
+pub mod NewsInOrder
 pub mod OneStore
 pub mod Told
 pub mod Tests

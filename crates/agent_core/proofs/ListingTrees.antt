@@ -31,6 +31,9 @@ size-some (New cell a) = omega arith
 size-some (Hence a) = omega arith
 size-some (Next a) = omega arith
 
+pub has_node : (all : List Node) → IsListing all → 0 < length all
+has_node all w = let e = ap length w.1 in omega (arith, length-listing 0 w.0, size-some w.0)
+
 pub left_listed : {all : List Node} {n : ℕ} (l r : Agent) → StandsAt Node all n (listing n (Par l r)) → StandsAt Node all (suc n) (listing (suc n) l)
 left_listed {all} {n} l r s = stands-left (listing (suc n) l) (listing (suc n + size l) r) (stands-tail s)
 

@@ -67,6 +67,6 @@ pub new_of-found : (p : CoreProgram) → IsProgram p → (c : ℕ) (d : CellDecl
 new_of-found p is c d local g =
     let from = ltb-false c p.declared local in
     let to = slice_get_within p.cells c d g in
-    let within = is.within in
+    let within = is.limits.within in
     let found = new_exists p.nodes p.declared (length p.cells - p.declared) is.locals c from (omega arith) in
     (found.1, ap (λ (k : ℕ). slice_get p.nodes k) (new_of-one p is found.0 c found.1 found.2) ∙ found.2)

@@ -52,11 +52,16 @@ Scoped p locals (New cell a) = Scoped p (cell ∷ locals) a
 Scoped p locals (Hence a) = Scoped p locals a
 Scoped p locals (Next a) = Scoped p locals a
 
-pub record IsProgram (p : CoreProgram) : Type 0 where
-  pub tree : IsListing p.nodes
-  pub locals : filter_map cell_of p.nodes ≡ count_up p.declared (length p.cells - p.declared)
-  pub within : p.declared ≤ length p.cells
-  pub scoped : Scoped p [] (agent_at p.nodes 0)
+-- the limits on the numbers of nodes and cells
+pub record IsWithinLimits (p : CoreProgram) : Type 0 where
   pub few_nodes : length p.nodes ≤ 4096
   pub few_cells : length p.cells ≤ 1024
   pub few_declared : p.declared ≤ 256
+  pub within : p.declared ≤ length p.cells
+
+-- the nodes are one tree; the cells of the new nodes are the local cells, in order; each constraint is in scope; and the limits are kept
+pub record IsProgram (p : CoreProgram) : Type 0 where
+  pub tree : IsListing p.nodes
+  pub locals : filter_map cell_of p.nodes ≡ count_up p.declared (length p.cells - p.declared)
+  pub scoped : Scoped p [] (agent_at p.nodes 0)
+  pub limits : IsWithinLimits p

@@ -1,6 +1,7 @@
-ghost use Rattle.std.specs.Prelude.{◌≡◌};
+ghost use Rattle.std.specs.Prelude.{◌≡◌, ◌↔◌, IfSome, IsSome};
 ghost use Rattle.agent_core.specs.Facts.{IsProgram};
 
+use crate::draft::Draft;
 use crate::node::{CellDecl, Node};
 use std::marker::Model;
 
@@ -24,27 +25,48 @@ impl Model for Program {
 }
 
 impl Program {
-    /// What holds of every program.
-    pub fn facts(&self)
-        ensures { IsProgram self.now }
+    /// The program with these cells, of which the first `declared` are declared and the others
+    /// local, and with these nodes. It takes no memory; what is refused is dropped.
+    pub fn make(cells: Vec<CellDecl>, declared: u32, nodes: Vec<Node>) -> Option<Program>
+        ensures exactly { IsSome result ↔ IsProgram (record { cells = cells.items; declared = declared; nodes = nodes.items }) }
+        ensures same { IfSome result (λ p. p ≡ record { cells = cells.items; declared = declared; nodes = nodes.items }) }
     {
-        let _ = &self.nodes;
+        let draft = Draft {
+            cells: &cells,
+            declared,
+            nodes: &nodes,
+        };
+        if draft.is_program() {
+            Some(Program {
+                cells,
+                declared,
+                nodes,
+            })
+        } else {
+            None
+        }
     }
 
+    /// The declared cells, and then the local ones.
     pub fn cells(&self) -> &[CellDecl]
-        ensures { result.now ≡ self.now.cells }
+        ensures all { result.now ≡ self.now.cells }
+        ensures program { IsProgram self.now }
     {
         self.cells.as_slice()
     }
 
+    /// How many cells are declared.
     pub fn declared(&self) -> u32
-        ensures { result ≡ self.now.declared }
+        ensures number { result ≡ self.now.declared }
+        ensures program { IsProgram self.now }
     {
         self.declared
     }
 
+    /// The nodes in preorder; node 0 is the root.
     pub fn nodes(&self) -> &[Node]
-        ensures { result.now ≡ self.now.nodes }
+        ensures all { result.now ≡ self.now.nodes }
+        ensures program { IsProgram self.now }
     {
         self.nodes.as_slice()
     }
