@@ -11,4 +11,5 @@ pub mod NewsInOrder
 pub mod OneStore
 pub mod Told
 pub mod Tests
+pub mod Tellings
 pub mod Rows

@@ -51,6 +51,10 @@ equal_names q n e = name_cmp-IsAntisymmetric q n (go (name_cmp q n) e)
     go Equal h = refl
     go Greater h = absurd (true_false (sym h))
 
+-- at one name, w entails what u does
+abbrev pub BelowAt : CoreProgram → Valuation → Valuation → CellName → Type 0
+BelowAt p u w q = (d : CellDecl) (t : Token) → Names p q d → Fits d.cell t → IsTrue (store_entails u q d.cell t) → IsTrue (store_entails w q d.cell t)
+
 -- s with one value more
 pub record Tells (p : CoreProgram) (s : Valuation) (n : CellName) (d : CellDecl) (t : Token) (after : Valuation) : Type 0 where
   pub store : IsStore p after
@@ -141,3 +145,15 @@ module _ (p : CoreProgram) (s : Valuation) (n : CellName) (d : CellDecl) (t : To
   told-Tells =
       let b : Bool = value_eq (value_with (value_at s n d.cell) t) (bottom_of d.cell) in
       record { store = is_store b refl; above = is_above b refl; entails = entails_it b refl; least = is_least b refl }
+
+  -- nothing changes but at the name, and there no more than needed
+  pub told-at : (x : Valuation) → IsStore p x → (q : CellName) → BelowAt p s x q → (q ≡ n → IsTrue (store_entails x n d.cell t)) → BelowAt p (told s n d.cell t) x q
+  told-at x ix q below ex e t' named_q f h = go (told_at (value_eq (value_with (value_at s n d.cell) t) (bottom_of d.cell)) refl q e named_q)
+    where
+      go : ((q ≡ n) × (value_at (told s n d.cell t) n d.cell ≡ value_with (value_at s n d.cell) t)) ⊎ (value_at (told s n d.cell t) q e.cell ≡ value_at s q e.cell) → IsTrue (store_entails x q e.cell t')
+      go (inl w) = at_name p q n e d (λ m c. Fits c.cell t' → IsTrue (store_entails (told s n d.cell t) m c.cell t') → IsTrue (store_entails x m c.cell t')) w.0 named_q named
+          (λ f h.
+          let fx = value_at-fits p x n d ix named in
+          let here : BelowAt p s x n = subst (BelowAt p s x) w.0 below in
+          added_here.least_such (value_at x n d.cell) fx.0 fx.1 (λ t f h. here d t named f h) (ex w.0) t' f (subst (λ (z : Value). IsTrue (value_entails z t')) w.1 h)) f h
+      go (inr w) = below e t' named_q f (subst (λ (z : Value). IsTrue (value_entails z t')) w h)

@@ -4,6 +4,7 @@ pub mod Listing
 pub mod Names
 pub mod Facts
 pub mod Scope
+pub mod Tellings
 pub mod Drafts
 pub mod Stores
 pub mod Rests
