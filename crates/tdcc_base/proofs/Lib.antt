@@ -1,0 +1,5 @@
+pub mod Known
+pub mod LineSteps
+pub mod FirstLines
+pub mod Splits
+pub mod PieceSteps

@@ -1,0 +1,102 @@
+use Rattle.std.proofs.Common.{◌≡◌, ◌≤◌, ◌<◌, ◌+◌, true, false, ℕ, List, length, take, ◌++◌, ◌∷◌, [], refl, sym, ap, ◌∙◌, subst, arith, length-append}
+use Rattle.std.specs.Prelude.{Result, Ok, Err}
+use Rattle.std.proofs.lemmas.List.{take_at}
+use Rattle.tdcc_base.specs.Unread.{unread}
+use Rattle.tdcc_base.specs.Texts.{ReadsText}
+use Rattle.tdcc_base.specs.declared.read_ahead.LineBreak.TheVariants as breaks
+use Rattle.std.specs.Io.KnownBytes.{Consumes}
+use Rattle.tdcc_base.specs.declared.stops.ReadStop.{ReadStop}
+use Rattle.tdcc_base.specs.declared.stops.TextEnd.{TextEnd}
+use Rattle.tdcc_base.specs.declared.stops.TextEnd.TheVariants as ends
+use Rattle.tdcc_base.proofs.LineSteps.{retell, err_is}
+use Rattle.tdcc_base.proofs.Splits.{seen_mark, text_at_mark, text_at_end, text_too_long, text_stop, text_goes_on, IsTextFront}
+use Rattle.tdcc_base.proofs.buffers.Buffers.finish_text.Goals as goal
+
+pub returns-in_err-line_break-clause-text : goal.returns-in_err-line_break-clause-text
+returns-in_err-line_break-clause-text g c =
+    let old = unread g.S.Source.left c.args.self.now.ahead c.args.source.now in
+    let mid = unread g.S.Source.left c.lines.self.ahead c.lines.source in
+    let new = unread g.S.Source.left c.append_line.new.self c.append_line.new.source in
+    let done : List ℕ = c.lines.self.text.items in
+    let after : List ℕ = c.append_line.new.into.items in
+    let stop : ReadStop = c.in_err-line_break.field-0.0 in
+    let told = retell mid new done done after 65539 c.append_line.result (Err stop) refl c.in_err-line_break.was c.append_line.ensures.line in
+    subst (λ (r : Result TextEnd ReadStop). ReadsText old new after r) (sym (err_is c.from_residual.result stop c.from_residual.ensures.1))
+    (text_stop old mid new done after c.lines.invariant.front c.lines.invariant.taken stop told c.lines.invariant.few)
+
+pub returns-then-is_mark_at-clause-text : goal.returns-then-is_mark_at-clause-text
+returns-then-is_mark_at-clause-text g c =
+    let old = unread g.S.Source.left c.args.self.now.ahead c.args.source.now in
+    let mid = unread g.S.Source.left c.lines.self.ahead c.lines.source in
+    let new = unread g.S.Source.left c.append_line.new.self c.append_line.new.source in
+    let done : List ℕ = c.lines.self.text.items in
+    let after : List ℕ = c.append_line.new.into.items in
+    let told = retell mid new done done after 65539 c.append_line.result (Ok c.in_ok-line_break.line_break) refl c.in_ok-line_break.was c.append_line.ensures.line in
+    let start : c.len-start.result ≡ length done = c.len-start.ensures ∙ c.lines.self.text.ok.0 in
+    let mark = seen_mark c.len-start.result done after c.as_slice.result.now true c.if-is_mark_at.ensures start c.as_slice.ensures.value in
+    let cut : c.truncate.new.self.items ≡ done = c.truncate.ensures.items ∙ ap (λ (xs : List ℕ). take c.len-start.result xs) told.appended ∙ take_at done told.line c.len-start.result (sym start) in
+    subst (λ (xs : List ℕ). ReadsText old new xs (Ok ends.Mark)) (sym cut)
+    (text_at_mark old mid new done after c.lines.invariant.front c.lines.invariant.taken c.in_ok-line_break.line_break 65539 told mark c.lines.invariant.few)
+
+pub returns-then-len-gt-TEXT_LIMIT-clause-text : goal.returns-then-len-gt-TEXT_LIMIT-clause-text
+returns-then-len-gt-TEXT_LIMIT-clause-text g c =
+    let old = unread g.S.Source.left c.args.self.now.ahead c.args.source.now in
+    let mid = unread g.S.Source.left c.lines.self.ahead c.lines.source in
+    let new = unread g.S.Source.left c.append_line.new.self c.append_line.new.source in
+    let done : List ℕ = c.lines.self.text.items in
+    let after : List ℕ = c.append_line.new.into.items in
+    let told = retell mid new done done after 65539 c.append_line.result (Ok breaks.End) refl (c.in_ok-line_break.was ∙ ap Ok c.in-End.is) c.append_line.ensures.line in
+    let start : c.len-start.result ≡ length done = c.len-start.ensures ∙ c.lines.self.text.ok.0 in
+    let mark = seen_mark c.len-start.result done after c.as_slice.result.now false c.if-is_mark_at.ensures start c.as_slice.ensures.value in
+    let long : 65536 < length after + 0 = omega (arith, c.if-len-gt-TEXT_LIMIT.true, c.len.ensures, c.append_line.new.into.ok.0) in
+    text_too_long old mid new done after c.lines.invariant.front c.lines.invariant.taken breaks.End 65539 told mark long
+
+pub returns-in-End-clause-text : goal.returns-in-End-clause-text
+returns-in-End-clause-text g c =
+    let old = unread g.S.Source.left c.args.self.now.ahead c.args.source.now in
+    let mid = unread g.S.Source.left c.lines.self.ahead c.lines.source in
+    let new = unread g.S.Source.left c.append_line.new.self c.append_line.new.source in
+    let done : List ℕ = c.lines.self.text.items in
+    let after : List ℕ = c.append_line.new.into.items in
+    let told = retell mid new done done after 65539 c.append_line.result (Ok breaks.End) refl (c.in_ok-line_break.was ∙ ap Ok c.in-End.is) c.append_line.ensures.line in
+    let start : c.len-start.result ≡ length done = c.len-start.ensures ∙ c.lines.self.text.ok.0 in
+    let mark = seen_mark c.len-start.result done after c.as_slice.result.now false c.if-is_mark_at.ensures start c.as_slice.ensures.value in
+    let short : length after ≤ 65536 = omega (arith, c.if-len-gt-TEXT_LIMIT.false, c.len.ensures, c.append_line.new.into.ok.0) in
+    text_at_end old mid new done after c.lines.invariant.front c.lines.invariant.taken 65539 told mark short
+
+pub returns-then-len-ge-TEXT_LIMIT-clause-text : goal.returns-then-len-ge-TEXT_LIMIT-clause-text
+returns-then-len-ge-TEXT_LIMIT-clause-text g c =
+    let old = unread g.S.Source.left c.args.self.now.ahead c.args.source.now in
+    let mid = unread g.S.Source.left c.lines.self.ahead c.lines.source in
+    let new = unread g.S.Source.left c.append_line.new.self c.append_line.new.source in
+    let done : List ℕ = c.lines.self.text.items in
+    let after : List ℕ = c.append_line.new.into.items in
+    let told = retell mid new done done after 65539 c.append_line.result (Ok breaks.Feed) refl (c.in_ok-line_break.was ∙ ap Ok c.in-Feed.is) c.append_line.ensures.line in
+    let start : c.len-start.result ≡ length done = c.len-start.ensures ∙ c.lines.self.text.ok.0 in
+    let mark = seen_mark c.len-start.result done after c.as_slice.result.now false c.if-is_mark_at.ensures start c.as_slice.ensures.value in
+    let long : 65536 < length after + 1 = omega (arith, c.if-len-ge-TEXT_LIMIT.true, c.len-in-Feed.ensures, c.append_line.new.into.ok.0) in
+    text_too_long old mid new done after c.lines.invariant.front c.lines.invariant.taken breaks.Feed 65539 told mark long
+
+pub lines-preserved : goal.lines-preserved
+lines-preserved g c =
+    let old = unread g.S.Source.left c.args.self.now.ahead c.args.source.now in
+    let mid = unread g.S.Source.left c.lines.self.ahead c.lines.source in
+    let new = unread g.S.Source.left c.append_line.new.self c.append_line.new.source in
+    let done : List ℕ = c.lines.self.text.items in
+    let after : List ℕ = c.append_line.new.into.items in
+    let told = retell mid new done done after 65539 c.append_line.result (Ok breaks.Feed) refl (c.in_ok-line_break.was ∙ ap Ok c.in-Feed.is) c.append_line.ensures.line in
+    let start : c.len-start.result ≡ length done = c.len-start.ensures ∙ c.lines.self.text.ok.0 in
+    let mark = seen_mark c.len-start.result done after c.as_slice.result.now false c.if-is_mark_at.ensures start c.as_slice.ensures.value in
+    let next : List ℕ = c.push_within.new.bytes.items in
+    let pushed : next ≡ after ++ 10 ∷ [] = c.push_within.ensures.items in
+    let size : length next ≡ length after + 1 = ap length pushed ∙ length-append after (10 ∷ []) in
+    let goes = text_goes_on old mid new done after c.lines.invariant.front c.lines.invariant.taken 65539 told mark in
+    record {
+      ready = c.append_line.ensures.ready;
+      taken = subst (λ (xs : List ℕ). Consumes old new xs) (sym pushed) goes.0;
+      front = subst IsTextFront (sym pushed) goes.1;
+      few = omega (arith, size, c.if-len-ge-TEXT_LIMIT.false, c.len-in-Feed.ensures, c.append_line.new.into.ok.0);
+      stays = λ e. let before = c.lines.invariant.stays e in let then = c.append_line.ensures.stays before.0 in (then.0, then.1 ∙ before.1);
+      later = omega (arith, c.append_line.ensures.later, c.lines.invariant.later);
+      stop = c.lines.invariant.stop;
+    }

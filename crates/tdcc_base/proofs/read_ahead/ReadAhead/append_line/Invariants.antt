@@ -1,0 +1,19 @@
+use Rattle.std.proofs.Common.{◌≡◌, ◌≤◌, ◌-◌}
+use Rattle.std.specs.Prelude.{vec_len, vec_capacity}
+use Rattle.tdcc_base.specs.Unread.{unread, IsReady, IsOver, StaysEnded}
+use Rattle.tdcc_base.proofs.LineSteps.{TakesFront}
+use Rattle.tdcc_base.proofs.read_ahead.ReadAhead.append_line.Given as goal
+
+abbrev pub invariant-bytes : goal.invariant-bytes
+invariant-bytes g l = record {
+  ready : IsReady g.S.Source.left l.self l.source;
+  front : TakesFront (unread g.S.Source.left l.fn.self l.fn.source) (unread g.S.Source.left l.self l.source) l.fn.into.items l.into.items;
+  within : vec_len l.into ≤ l.limit;
+  room : l.limit ≤ vec_capacity l.into;
+  stays : StaysEnded l.fn.self l.self l.fn.source l.source;
+  over : IsOver l.fn.self → (l.self ≡ l.fn.self) × (l.into.items ≡ l.fn.into.items);
+  later : g.S.Source.faults l.fn.source ≤ g.S.Source.faults l.source;
+}
+
+abbrev pub decreases-bytes : goal.decreases-bytes
+decreases-bytes g l = l.limit - vec_len l.into

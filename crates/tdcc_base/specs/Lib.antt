@@ -1,0 +1,10 @@
+pub mod Causes
+pub mod Written
+pub mod Calls
+pub mod Pieces
+pub mod Rooms
+pub mod Statuses
+pub mod Lines
+pub mod Texts
+pub mod Unread
+pub mod Waiting

@@ -1,0 +1,64 @@
+-- What `Lines` are over: a source, and what was read of it. This project's own.
+use Rattle.std.specs.Prelude.{◌≡◌, ℕ, List, [], Option, None}
+use Rattle.std.specs.Borrow.{GName}
+use Rattle.tdcc_base.specs.declared.stops.ReadStop.{ReadStop}
+use Rattle.tdcc_base.specs.declared.buffers.Buffers.{Buffers}
+use Rattle.tdcc_base.specs.declared.lines.Lines.{Lines}
+use Rattle.tdcc_base.specs.Unread.{unread, IsReady, IsOver, IsDrained, StaysEnded}
+
+-- nothing was read into the buffers yet
+pub record IsFresh (buffers : Buffers) : Type 0 where
+  pub unused : IsDrained buffers.ahead
+  pub no_stop : buffers.stop ≡ None
+  pub no_text : buffers.text.items ≡ []
+
+-- the source, as it stands
+abbrev pub source_of : {S : Type 0} → Lines S Buffers → S
+source_of lines = lines.source.now
+
+-- which reference the lines hold
+abbrev pub name_of : {S : Type 0} → Lines S Buffers → GName
+name_of lines = lines.source.ghost_name
+
+-- the bytes that are not yet handed out: those that were read ahead, and those that the source has left
+abbrev pub waiting : {S : Type 0} → (S → Option (List ℕ)) → Lines S Buffers → Option (List ℕ)
+waiting left lines = unread left lines.buffers.ahead lines.source.now
+
+-- the text that was read
+abbrev pub text_read : {S : Type 0} → Lines S Buffers → List ℕ
+text_read lines = lines.buffers.text.items
+
+-- the line that was read last
+abbrev pub line_read : {S : Type 0} → Lines S Buffers → List ℕ
+line_read lines = lines.buffers.line.items
+
+-- the stop that was answered
+abbrev pub stop_of : {S : Type 0} → Lines S Buffers → Option ReadStop
+stop_of lines = lines.buffers.stop
+
+-- nothing is left in a source that has ended
+abbrev pub LinesReady : {S : Type 0} → (S → Option (List ℕ)) → Lines S Buffers → Type 0
+LinesReady left lines = IsReady left lines.buffers.ahead lines.source.now
+
+-- the source has ended, and all of it was handed out
+abbrev pub AtEnd : {S : Type 0} → Lines S Buffers → Type 0
+AtEnd lines = IsOver lines.buffers.ahead
+
+-- the source has not ended, and all that it gave was handed out, or is the line or the text at hand
+abbrev pub NothingHeldBack : {S : Type 0} → Lines S Buffers → Type 0
+NothingHeldBack lines = IsDrained lines.buffers.ahead
+
+-- once the source has ended it is not read again
+abbrev pub ReadsNoMoreAfterEnd : {S : Type 0} → Lines S Buffers → Lines S Buffers → Type 0
+ReadsNoMoreAfterEnd old new = StaysEnded old.buffers.ahead new.buffers.ahead old.source.now new.source.now
+
+-- nothing was read yet
+pub record IsFirst {S : Type 0} (left : S → Option (List ℕ)) (lines : Lines S Buffers) : Type 0 where
+  pub ready : LinesReady left lines
+  pub fresh : IsFresh lines.buffers
+
+-- the lines are over this source, of which nothing was read
+pub record Opens {S : Type 0} (left : S → Option (List ℕ)) (source : S) (lines : Lines S Buffers) : Type 0 where
+  pub same : source_of lines ≡ source
+  pub first : IsFirst left lines
+  pub all : waiting left lines ≡ left source

@@ -1,0 +1,47 @@
+ghost use Rattle.std.specs.Prelude.{◌≡◌, ◌≤◌, ◌↔◌, IsTrue};
+ghost use Rattle.tdcc_base.specs.Causes.{next_count};
+
+/// The calls of a device in memory, numbered from 0: which are to fail, and how many have failed.
+#[derive(Drop)]
+pub struct Calls {
+    fails: Vec<u64>,
+    next: u64,
+    faults: u64,
+}
+
+impl Calls {
+    ghost use Rattle.tdcc_base.specs.Calls.{listed, number, IsListed, AreNew};
+
+    /// No call yet. Those with these numbers are to fail.
+    pub(crate) fn new(fails: Vec<u64>) -> Calls
+        ensures { AreNew result fails.items }
+    {
+        Calls {
+            fails,
+            next: 0,
+            faults: 0,
+        }
+    }
+
+    /// Numbers a call, and answers whether it is to fail.
+    pub(crate) fn begin(&mut self) -> bool
+        ensures fails { IsTrue result ↔ IsListed self.old }
+        ensures next { number self.new ≡ next_count (number self.old) }
+        ensures list { listed self.new ≡ listed self.old }
+        ensures faults { self.new.faults ≡ self.old.faults }
+    {
+        let call = self.next;
+        self.next = call.saturating_add(1);
+        self.fails.contains(&call)
+    }
+
+    /// Counts a call that fails.
+    pub(crate) fn fail(&mut self)
+        ensures next { number self.new ≡ number self.old }
+        ensures list { listed self.new ≡ listed self.old }
+        ensures faults { self.new.faults ≡ next_count self.old.faults }
+        ensures later { self.old.faults ≤ self.new.faults }
+    {
+        self.faults = self.faults.saturating_add(1);
+    }
+}

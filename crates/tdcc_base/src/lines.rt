@@ -1,0 +1,121 @@
+ghost use Rattle.std.specs.Prelude.{◌≡◌, ◌≤◌, Ok, Err, IfOk, IfSome, IsNone, IsErrOf, length};
+ghost use Rattle.std.specs.Result.{result_err};
+ghost use Rattle.tdcc_base.specs.Causes.{Rose};
+
+use crate::buffers::Buffers;
+use crate::outside::{Memory, Source};
+use crate::stops::{LineEnd, ReadStop, TextEnd};
+use std::alloc::Global;
+
+/// Reads an input: its program text first, and then the lines of its trace, one after another.
+///
+/// The text ends before the first line that is `%%`, or `%%` and a carriage return. It has at most
+/// 65,536 bytes, the line feed before the mark included. A line has at most 32,768 bytes without its
+/// line feed. A last line without a line feed counts where it is not empty.
+///
+/// Nothing is read beyond what the next answer needs and 4,096 bytes, and nothing after the source
+/// has answered that it is at its end.
+pub struct Lines<'a, S, B = Buffers> {
+    source: &'a mut S,
+    buffers: B,
+}
+
+impl<'a, S, B: Drop> Drop for Lines<'a, S, B> {
+    fn drop(self)
+        ensures { self.exit.0.now ≡ self.entry.source.now }
+    {
+        let Lines {
+            source: _,
+            buffers: _,
+        } = self;
+    }
+}
+
+impl<'a, S: Source> Lines<'a, S> {
+    ghost use Rattle.tdcc_base.specs.Waiting.{waiting, source_of, text_read, line_read, stop_of, name_of, Opens, IsFirst, LinesReady, AtEnd, NothingHeldBack, ReadsNoMoreAfterEnd};
+    ghost use Rattle.tdcc_base.specs.Lines.{ReadsLine};
+    ghost use Rattle.tdcc_base.specs.Texts.{ReadsText};
+
+    /// Takes every buffer that the reading needs, and reads nothing.
+    ///
+    /// # Errors
+    /// `Memory` where there is none for the buffers.
+    pub fn new(alloc: Global, source: &'a mut S) -> Result<Lines<'a, S>, Memory>
+        ensures same_reference { IfOk result (λ lines. name_of lines ≡ source.entry.ghost_name) }
+        ensures opens { IfOk result (λ lines. Opens S.left source.old lines) }
+    {
+        let buffers = Buffers::new(alloc)?;
+        Ok(Lines { source, buffers })
+    }
+
+    /// Reads the program text, once and before any line.
+    ///
+    /// # Errors
+    /// `TooLong` where the text has more than 65,536 bytes, and `Read` where the source failed.
+    /// Each later call answers the same and makes no read.
+    pub fn read_text(&mut self) -> Result<TextEnd, ReadStop>
+        requires first { IsFirst S.left self.old }
+        ensures same_reference { name_of self.new ≡ name_of self.old }
+        ensures text { ReadsText (waiting S.left self.old) (waiting S.left self.new) (text_read self.new) result }
+        ensures short { IfOk result (λ _. length (text_read self.new) ≤ 65536) }
+        ensures ready { LinesReady S.left self.new }
+        ensures stopped { stop_of self.new ≡ result_err result }
+        ensures going_on { IfOk result (λ _. IsNone (stop_of self.new)) }
+
+        // The end of the source.
+        ensures end { result ≡ Ok TextEnd.End → AtEnd self.new }
+        ensures no_more { ReadsNoMoreAfterEnd self.old self.new }
+
+        // A fault of the source.
+        ensures later { S.faults (source_of self.old) ≤ S.faults (source_of self.new) }
+        ensures read { IsErrOf result ReadStop.Read → Rose (S.faults (source_of self.old)) (S.faults (source_of self.new)) }
+        ensures held_back { IsErrOf result ReadStop.Read → NothingHeldBack self.new }
+    {
+        self.buffers.read_text(self.source)
+    }
+
+    /// Reads the next line.
+    ///
+    /// # Errors
+    /// `TooLong` where the line has more than 32,768 bytes, and `Read` where the source failed.
+    /// Each later call answers the same and makes no read.
+    pub fn read_line(&mut self) -> Result<LineEnd, ReadStop>
+        requires ready { LinesReady S.left self.old }
+        ensures same_reference { name_of self.new ≡ name_of self.old }
+        ensures line { IsNone (stop_of self.old) → ReadsLine (waiting S.left self.old) (waiting S.left self.new) (line_read self.new) result }
+        ensures short { IfOk result (λ _. length (line_read self.new) ≤ 32768) }
+        ensures text { text_read self.new ≡ text_read self.old }
+        ensures ready { LinesReady S.left self.new }
+
+        // A stop is kept, and answered again with no read.
+        ensures again { IfSome (stop_of self.old) (λ stop. (result ≡ Err stop) × (source_of self.new ≡ source_of self.old)) }
+        ensures stopped { stop_of self.new ≡ result_err result }
+        ensures going_on { IfOk result (λ _. IsNone (stop_of self.new)) }
+
+        // The end of the source.
+        ensures end { result ≡ Ok LineEnd.End → AtEnd self.new }
+        ensures after_end { IsNone (stop_of self.old) → AtEnd self.old → (result ≡ Ok LineEnd.End) × AtEnd self.new }
+        ensures no_more { ReadsNoMoreAfterEnd self.old self.new }
+
+        // A fault of the source.
+        ensures later { S.faults (source_of self.old) ≤ S.faults (source_of self.new) }
+        ensures read { IsNone (stop_of self.old) → IsErrOf result ReadStop.Read → Rose (S.faults (source_of self.old)) (S.faults (source_of self.new)) }
+        ensures held_back { IsNone (stop_of self.old) → IsErrOf result ReadStop.Read → NothingHeldBack self.new }
+    {
+        self.buffers.read_line(self.source)
+    }
+
+    /// The program text, once it was read.
+    pub fn text(&self) -> &[u8]
+        ensures { result.now ≡ text_read self.now }
+    {
+        self.buffers.text()
+    }
+
+    /// The line that was read last, without its line feed.
+    pub fn line(&self) -> &[u8]
+        ensures { result.now ≡ line_read self.now }
+    {
+        self.buffers.line()
+    }
+}

@@ -1,0 +1,53 @@
+ghost use Rattle.std.specs.Prelude.{◌<◌, ◌≤◌, List, ℕ, Option, IfOk, length};
+ghost use Rattle.std.specs.Io.{ReadsAtMost};
+ghost use Rattle.std.specs.Io.KnownBytes.{ReadConsumes, WriteAppends};
+ghost use Rattle.tdcc_base.specs.Causes.{HasCause};
+
+use std::alloc::AllocError;
+
+/// Want of memory.
+pub type Memory = AllocError;
+
+/// A device refused a call, and counted that.
+#[derive(Clone, Copy, Debug, PartialEq, Eq)]
+pub struct Failed;
+
+/// Where bytes come from.
+pub trait Source {
+    /// The bytes that are not given yet, where the source tells them.
+    ghost left: { Self → Option (List ℕ) };
+
+    /// How often the source has failed. The count never falls, and stops at the greatest `u64`.
+    ghost faults: { Self → ℕ };
+
+    /// Reads some of the bytes that are left into the front of `into`, and answers how many.
+    /// `Ok(0)` is the end of the bytes.
+    ///
+    /// # Errors
+    /// `Failed` where the device refused the call: it has counted that, and has given nothing.
+    fn read(&mut self, into: &mut [u8]) -> Result<usize, Failed>
+        requires { 0 < length into.old }
+        ensures bound { ReadsAtMost result into.new }
+        ensures bytes { ReadConsumes (left self.old) (left self.new) result into.new }
+        ensures cause { HasCause (faults self.old) (faults self.new) result };
+}
+
+/// Where bytes go.
+pub trait Sink {
+    /// The bytes that were taken, where the sink tells them.
+    ghost written: { Self → Option (List ℕ) };
+
+    /// How often the sink has failed. The count never falls, and stops at the greatest `u64`.
+    ghost faults: { Self → ℕ };
+
+    /// Takes some bytes of the front of `from`, at least one, and answers how many.
+    ///
+    /// # Errors
+    /// `Failed` where the device refused the call or took nothing: it has counted that.
+    fn write(&mut self, from: &[u8]) -> Result<usize, Failed>
+        requires { 0 < length from.now }
+        ensures some { IfOk result (λ n. 0 < n) }
+        ensures bound { IfOk result (λ n. n ≤ length from.now) }
+        ensures bytes { WriteAppends (written self.old) (written self.new) result from.now }
+        ensures cause { HasCause (faults self.old) (faults self.new) result };
+}

@@ -1,0 +1,26 @@
+/// How the reading of a text ended.
+#[derive(Clone, Copy, Debug, PartialEq, Eq)]
+pub enum TextEnd {
+    /// A line that is a mark stands behind the text.
+    Mark,
+    /// The input ended with the text.
+    End,
+}
+
+/// How the reading of a line ended.
+#[derive(Clone, Copy, Debug, PartialEq, Eq)]
+pub enum LineEnd {
+    /// A line was read.
+    Line,
+    /// No line was left.
+    End,
+}
+
+/// Why a text or a line was not read.
+#[derive(Clone, Copy, Debug, PartialEq, Eq)]
+pub enum ReadStop {
+    /// The text is longer than 65,536 bytes, or the line than 32,768.
+    TooLong,
+    /// The source failed.
+    Read,
+}

@@ -1,0 +1,22 @@
+ghost use Rattle.std.specs.Prelude.{OnOk, OnErr};
+ghost use Rattle.std.specs.Io.KnownBytes.{Appends};
+ghost use Rattle.tdcc_base.specs.Causes.{HasCause};
+ghost use Rattle.tdcc_base.specs.Written.{AppendsPart};
+
+use crate::outside::{Failed, Sink};
+
+/// Writes all bytes, in as many writes as the sink needs.
+///
+/// # Errors
+/// `Failed` where a write failed: some of the bytes, and not all, may have been written before it.
+pub fn write_all<K: Sink>(sink: &mut K, bytes: &[u8]) -> Result<(), Failed>
+    ensures ok { OnOk result (Appends (K.written sink.old) (K.written sink.new) bytes.now) }
+    ensures part { OnErr result (AppendsPart (K.written sink.old) (K.written sink.new) bytes.now) }
+    ensures cause { HasCause (K.faults sink.old) (K.faults sink.new) result }
+{
+    let mut done = 0;
+    while done < bytes.len() {
+        done += sink.write(&bytes[done..])?;
+    }
+    Ok(())
+}
