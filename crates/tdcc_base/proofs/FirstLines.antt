@@ -104,4 +104,5 @@ line_stop (Some bytes) (Some rest) after stops.TooLong a =
     let whole : bytes ≡ a.line ++ b ∷ rest = a.taken.2 ∙ append_assoc a.line (b ∷ []) rest in
     let first : first_line bytes ≡ a.line ++ b ∷ first_line rest =
     ap first_line whole ∙ first_line-append a.line (b ∷ rest) a.no_feed ∙ ap (λ (c : Bool). a.line ++ cond c [] (b ∷ first_line rest)) (not_feed b a.taken.1) in
-    omega (arith, ap length first, length-append a.line (b ∷ first_line rest), ap length a.appended, a.taken.3)
+    let size = length-append a.line (b ∷ first_line rest) in
+    (omega (arith, ap length first, size, ap length a.appended, a.taken.3), (b ∷ [], omega arith, subst (λ (xs : List ℕ). bytes ≡ (xs ++ b ∷ []) ++ rest) (sym a.appended) a.taken.2))

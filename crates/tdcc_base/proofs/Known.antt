@@ -5,6 +5,8 @@ use Rattle.std.proofs.lemmas.Grind.{common_steps}
 use Rattle.std.proofs.lemmas.List.{append-nil}
 use Rattle.std.specs.Prelude.{Option}
 use Rattle.std.specs.declared.alloc.Global.{Global}
+use Rattle.tdcc_base.specs.declared.read_ahead.ReadAhead.{ReadAhead}
+use Rattle.tdcc_base.specs.Unread.{pending, unread}
 use Rattle.std.specs.Io.KnownBytes.{Appends, Keeps, Consumes, prepend_known}
 
 -- one growth after another
@@ -66,3 +68,11 @@ some_items v e none = absurd (none_left (vec_len v) (v.ok.0 ∙ ap length none) 
     none_left : (n : ℕ) → n ≡ 0 → false ≡ (n == 0) → ⊥
     none_left zero z f = absurd (cc)
     none_left (suc n) z f = omega (arith, z)
+
+-- where nothing is held back, what is not handed out is what the source has left
+pub unread-none : {S : Type 0} (left : S → Option (List ℕ)) (ahead : ReadAhead) (source : S) → pending ahead ≡ [] → unread left ahead source ≡ left source
+unread-none left ahead source none = ap (λ xs. prepend_known xs (left source)) none ∙ prepend_nothing (left source)
+  where
+    prepend_nothing : (known : Option (List ℕ)) → prepend_known [] known ≡ known
+    prepend_nothing None = refl
+    prepend_nothing (Some bytes) = refl

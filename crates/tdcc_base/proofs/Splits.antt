@@ -1,8 +1,8 @@
 -- How an input is split, line by line.
-use Rattle.std.proofs.Common.{◌≡◌, ◌≢◌, ℕ, ◌+◌, ◌<◌, ◌≤◌, Bool, true, false, cond, List, [], ◌∷◌, ◌++◌, All, length, drop, refl, sym, ap, ◌∙◌, subst, arith, inl, inr, ◌⊎◌, append_assoc, length-append}
+use Rattle.std.proofs.Common.{◌≡◌, ◌≢◌, ℕ, ◌+◌, ◌<◌, ◌≤◌, Bool, true, false, cond, List, [], ◌∷◌, ◌++◌, All, length, take, drop, refl, sym, ap, ◌∙◌, subst, arith, inl, inr, ◌⊎◌, append_assoc, length-append}
 use Rattle.std.specs.Prelude.{◌==◌, Option, Some, None, Ok, Err}
 use Rattle.std.specs.Io.KnownBytes.{Consumes, IsAtEnd}
-use Rattle.std.proofs.lemmas.List.{append-nil, drop_at}
+use Rattle.std.proofs.lemmas.List.{append-nil, drop_at, take_at}
 use Rattle.std.proofs.lemmas.List.Elements.{All-append, All-cons, All-nil}
 use Rattle.tdcc_base.specs.Lines.{HasNoFeed, first_line, after_line, lines_of}
 use Rattle.tdcc_base.specs.Texts.{is_mark, HasNoMark, AreWholeLines, Split, behind, split_from, text_of, trace_of, ReadsText, IsTextRead}
@@ -166,6 +166,10 @@ module _ (done : List ℕ) (front : IsTextFront done) where
 pub seen_mark : (start : ℕ) (done after seen : List ℕ) (b : Bool) → b ≡ is_mark (drop start seen) → start ≡ length done → seen ≡ after → is_mark (drop (length done) after) ≡ b
 seen_mark start done after seen b e f h = sym (e ∙ ap (λ (k : ℕ). is_mark (drop k seen)) f ∙ ap (λ (xs : List ℕ). is_mark (drop (length done) xs)) h)
 
+-- the text that is cut where the line began
+pub cut_text : (start : ℕ) (done line after cut : List ℕ) → cut ≡ take start after → after ≡ done ++ line → start ≡ length done → cut ≡ done
+cut_text start done line after cut e f h = e ∙ ap (take start) f ∙ take_at done line start (sym h)
+
 -- a line feed counts as a byte of the text
 abbrev pub feed_of : LineBreak → ℕ
 feed_of breaks.Feed = 1
@@ -224,7 +228,10 @@ module _ (old mid new : Option (List ℕ)) (done after : List ℕ) (front : IsTe
       at_feed None new c = tt
       at_feed (Some bytes) None c = absurd c
       at_feed (Some bytes) (Some rest) c =
-          long_at_feed done front bytes a.line rest (c ∙ simp append_assoc) a.no_feed (no_mark breaks.Feed limit a m) (omega (arith, ap length a.appended, long))
+          (
+            long_at_feed done front bytes a.line rest (c ∙ simp append_assoc) a.no_feed (no_mark breaks.Feed limit a m) (omega (arith, ap length a.appended, long)),
+            (10 ∷ [], omega arith, subst (λ (xs : List ℕ). bytes ≡ (xs ++ 10 ∷ []) ++ rest) (sym a.appended) (c ∙ simp append_assoc)),
+          )
   text_too_long breaks.End limit a m long = at_end old new (Consumes-then old mid new done a.line taken a.taken.0) a.taken.1
     where
       at_end : (old new : Option (List ℕ)) → Consumes old new (done ++ a.line) → IsAtEnd new → ReadsText old new after (Err stops.TooLong)
@@ -232,7 +239,10 @@ module _ (old mid new : Option (List ℕ)) (done after : List ℕ) (front : IsTe
       at_end (Some bytes) None c e = absurd c
       at_end (Some bytes) (Some rest) c e =
           let whole : bytes ≡ done ++ a.line = c ∙ ap (λ ys. (done ++ a.line) ++ ys) e ∙ append-nil (done ++ a.line) in
-          long_at_end done front bytes a.line whole a.no_feed (no_mark breaks.End limit a m) (omega (arith, ap length a.appended, long))
+          (
+            long_at_end done front bytes a.line whole a.no_feed (no_mark breaks.End limit a m) (omega (arith, ap length a.appended, long)),
+            ([], omega arith, subst (λ (xs : List ℕ). bytes ≡ (xs ++ []) ++ rest) (sym a.appended) (c ∙ ap (λ xs. xs ++ rest) (sym (append-nil (done ++ a.line))))),
+          )
 
   pub text_stop : (stop : ReadStop) → AppendsLine mid new done after 65539 (Err stop) → length done ≤ 65536 → ReadsText old new after (Err stop)
   text_stop stops.Read a few = at_fault old new (Consumes-then old mid new done a.line taken a.taken)
@@ -258,7 +268,10 @@ module _ (old mid new : Option (List ℕ)) (done after : List ℕ) (front : IsTe
       at_byte None new c = tt
       at_byte (Some bytes) None c = absurd c
       at_byte (Some bytes) (Some rest) c =
-          long_at_byte done front bytes longer rest (c ∙ append_assoc done longer rest) no_feed (omega (arith, size, full, few)) (omega (arith, size, full, length-append done longer))
+          (
+            long_at_byte done front bytes longer rest (c ∙ append_assoc done longer rest) no_feed (omega (arith, size, full, few)) (omega (arith, size, full, length-append done longer)),
+            (a.taken.0 ∷ [], omega arith, subst (λ (xs : List ℕ). bytes ≡ (xs ++ a.taken.0 ∷ []) ++ rest) (sym a.appended) (c ∙ simp append_assoc)),
+          )
 
   -- a line that is no mark is text, with its line feed
   pub text_goes_on : (limit : ℕ) → AppendsLine mid new done after limit (Ok breaks.Feed) → is_mark (drop (length done) after) ≡ false → Consumes old new (after ++ 10 ∷ []) × IsTextFront (after ++ 10 ∷ [])

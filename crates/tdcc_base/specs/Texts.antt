@@ -5,7 +5,7 @@ use Rattle.tdcc_base.specs.declared.stops.TextEnd.{TextEnd}
 use Rattle.tdcc_base.specs.declared.stops.TextEnd.TheVariants as ends
 use Rattle.tdcc_base.specs.declared.stops.ReadStop.{ReadStop}
 use Rattle.tdcc_base.specs.declared.stops.ReadStop.TheVariants as stops
-use Rattle.tdcc_base.specs.Lines.{first_line, after_line, lines_of}
+use Rattle.tdcc_base.specs.Lines.{first_line, after_line, lines_of, ConsumesOneMore}
 
 -- two percent signs, and it may be a carriage return
 abbrev pub is_mark : List ℕ → Bool
@@ -76,5 +76,5 @@ pub record IsTextRead (bytes : List ℕ) (new : Option (List ℕ)) (text : List 
 abbrev pub ReadsText : Option (List ℕ) → Option (List ℕ) → List ℕ → Result TextEnd ReadStop → Type 0
 ReadsText None new text result = Unit {0}
 ReadsText (Some bytes) new text (Ok end) = IsTextRead bytes new text end
-ReadsText (Some bytes) new text (Err stops.TooLong) = 65536 < length (text_of bytes)
+ReadsText (Some bytes) new text (Err stops.TooLong) = (65536 < length (text_of bytes)) × ConsumesOneMore (Some bytes) new text
 ReadsText (Some bytes) new text (Err stops.Read) = Consumes (Some bytes) new text

@@ -1,5 +1,5 @@
 -- What `Lines` are over: a source, and what was read of it. This project's own.
-use Rattle.std.specs.Prelude.{◌≡◌, ℕ, List, [], Option, None}
+use Rattle.std.specs.Prelude.{◌≡◌, ℕ, false, List, [], Option, None}
 use Rattle.std.specs.Borrow.{GName}
 use Rattle.tdcc_base.specs.declared.stops.ReadStop.{ReadStop}
 use Rattle.tdcc_base.specs.declared.buffers.Buffers.{Buffers}
@@ -44,9 +44,13 @@ LinesReady left lines = IsReady left lines.buffers.ahead lines.source.now
 abbrev pub AtEnd : {S : Type 0} → Lines S Buffers → Type 0
 AtEnd lines = IsOver lines.buffers.ahead
 
--- the source has not ended, and all that it gave was handed out, or is the line or the text at hand
-abbrev pub NothingHeldBack : {S : Type 0} → Lines S Buffers → Type 0
-NothingHeldBack lines = IsDrained lines.buffers.ahead
+-- the source has not answered that it is at its end
+abbrev pub HasNotEnded : {S : Type 0} → Lines S Buffers → Type 0
+HasNotEnded lines = lines.buffers.ahead.ended ≡ false
+
+-- nothing is held back: what waits is what the source has left
+abbrev pub HoldsNothingBack : {S : Type 0} → (S → Option (List ℕ)) → Lines S Buffers → Type 0
+HoldsNothingBack left lines = waiting left lines ≡ left lines.source.now
 
 -- once the source has ended it is not read again
 abbrev pub ReadsNoMoreAfterEnd : {S : Type 0} → Lines S Buffers → Lines S Buffers → Type 0

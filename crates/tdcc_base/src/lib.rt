@@ -13,10 +13,11 @@ mod outside;
 mod read_ahead;
 mod status;
 mod stops;
+#[cfg(test)]
+mod tests;
 mod writing;
 
 pub use adapters::{StdSink, StdSource};
-pub use buffers::Buffers;
 pub use gate::{Acted, Gate, OpenGate};
 pub use lines::Lines;
 pub use memory_sink::MemSink;

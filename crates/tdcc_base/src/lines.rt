@@ -32,7 +32,7 @@ impl<'a, S, B: Drop> Drop for Lines<'a, S, B> {
 }
 
 impl<'a, S: Source> Lines<'a, S> {
-    ghost use Rattle.tdcc_base.specs.Waiting.{waiting, source_of, text_read, line_read, stop_of, name_of, Opens, IsFirst, LinesReady, AtEnd, NothingHeldBack, ReadsNoMoreAfterEnd};
+    ghost use Rattle.tdcc_base.specs.Waiting.{waiting, source_of, text_read, line_read, stop_of, name_of, Opens, IsFirst, LinesReady, AtEnd, HasNotEnded, HoldsNothingBack, ReadsNoMoreAfterEnd};
     ghost use Rattle.tdcc_base.specs.Lines.{ReadsLine};
     ghost use Rattle.tdcc_base.specs.Texts.{ReadsText};
 
@@ -64,12 +64,14 @@ impl<'a, S: Source> Lines<'a, S> {
 
         // The end of the source.
         ensures end { result ≡ Ok TextEnd.End → AtEnd self.new }
+        ensures end_all { result ≡ Ok TextEnd.End → HoldsNothingBack S.left self.new }
         ensures no_more { ReadsNoMoreAfterEnd self.old self.new }
 
         // A fault of the source.
         ensures later { S.faults (source_of self.old) ≤ S.faults (source_of self.new) }
         ensures read { IsErrOf result ReadStop.Read → Rose (S.faults (source_of self.old)) (S.faults (source_of self.new)) }
-        ensures held_back { IsErrOf result ReadStop.Read → NothingHeldBack self.new }
+        ensures read_before_end { IsErrOf result ReadStop.Read → HasNotEnded self.new }
+        ensures read_all { IsErrOf result ReadStop.Read → HoldsNothingBack S.left self.new }
     {
         self.buffers.read_text(self.source)
     }
@@ -88,31 +90,33 @@ impl<'a, S: Source> Lines<'a, S> {
         ensures ready { LinesReady S.left self.new }
 
         // A stop is kept, and answered again with no read.
-        ensures again { IfSome (stop_of self.old) (λ stop. (result ≡ Err stop) × (source_of self.new ≡ source_of self.old)) }
+        ensures again { IfSome (stop_of self.old) (λ stop. (result ≡ Err stop) × (self.new ≡ self.old)) }
         ensures stopped { stop_of self.new ≡ result_err result }
         ensures going_on { IfOk result (λ _. IsNone (stop_of self.new)) }
 
         // The end of the source.
         ensures end { result ≡ Ok LineEnd.End → AtEnd self.new }
+        ensures end_all { result ≡ Ok LineEnd.End → HoldsNothingBack S.left self.new }
         ensures after_end { IsNone (stop_of self.old) → AtEnd self.old → (result ≡ Ok LineEnd.End) × AtEnd self.new }
         ensures no_more { ReadsNoMoreAfterEnd self.old self.new }
 
         // A fault of the source.
         ensures later { S.faults (source_of self.old) ≤ S.faults (source_of self.new) }
         ensures read { IsNone (stop_of self.old) → IsErrOf result ReadStop.Read → Rose (S.faults (source_of self.old)) (S.faults (source_of self.new)) }
-        ensures held_back { IsNone (stop_of self.old) → IsErrOf result ReadStop.Read → NothingHeldBack self.new }
+        ensures read_before_end { IsNone (stop_of self.old) → IsErrOf result ReadStop.Read → HasNotEnded self.new }
+        ensures read_all { IsNone (stop_of self.old) → IsErrOf result ReadStop.Read → HoldsNothingBack S.left self.new }
     {
         self.buffers.read_line(self.source)
     }
 
-    /// The program text, once it was read.
+    /// The program text, once it was read. After a stop it is what was read of it.
     pub fn text(&self) -> &[u8]
         ensures { result.now ≡ text_read self.now }
     {
         self.buffers.text()
     }
 
-    /// The line that was read last, without its line feed.
+    /// The line that was read last, without its line feed. After a stop it is what was read of it.
     pub fn line(&self) -> &[u8]
         ensures { result.now ≡ line_read self.now }
     {

@@ -1,6 +1,5 @@
 use Rattle.std.proofs.Common.{◌≡◌, ◌≤◌, ◌<◌, ◌+◌, true, false, ℕ, List, length, take, ◌++◌, ◌∷◌, [], refl, sym, ap, ◌∙◌, subst, arith, length-append}
 use Rattle.std.specs.Prelude.{Result, Ok, Err}
-use Rattle.std.proofs.lemmas.List.{take_at}
 use Rattle.tdcc_base.specs.Unread.{unread}
 use Rattle.tdcc_base.specs.Texts.{ReadsText}
 use Rattle.tdcc_base.specs.declared.read_ahead.LineBreak.TheVariants as breaks
@@ -9,7 +8,7 @@ use Rattle.tdcc_base.specs.declared.stops.ReadStop.{ReadStop}
 use Rattle.tdcc_base.specs.declared.stops.TextEnd.{TextEnd}
 use Rattle.tdcc_base.specs.declared.stops.TextEnd.TheVariants as ends
 use Rattle.tdcc_base.proofs.LineSteps.{retell, err_is}
-use Rattle.tdcc_base.proofs.Splits.{seen_mark, text_at_mark, text_at_end, text_too_long, text_stop, text_goes_on, IsTextFront}
+use Rattle.tdcc_base.proofs.Splits.{seen_mark, cut_text, text_at_mark, text_at_end, text_too_long, text_stop, text_goes_on, IsTextFront}
 use Rattle.tdcc_base.proofs.buffers.Buffers.finish_text.Goals as goal
 
 pub returns-in_err-line_break-clause-text : goal.returns-in_err-line_break-clause-text
@@ -34,7 +33,7 @@ returns-then-is_mark_at-clause-text g c =
     let told = retell mid new done done after 65539 c.append_line.result (Ok c.in_ok-line_break.line_break) refl c.in_ok-line_break.was c.append_line.ensures.line in
     let start : c.len-start.result ≡ length done = c.len-start.ensures ∙ c.lines.self.text.ok.0 in
     let mark = seen_mark c.len-start.result done after c.as_slice.result.now true c.if-is_mark_at.ensures start c.as_slice.ensures.value in
-    let cut : c.truncate.new.self.items ≡ done = c.truncate.ensures.items ∙ ap (λ (xs : List ℕ). take c.len-start.result xs) told.appended ∙ take_at done told.line c.len-start.result (sym start) in
+    let cut = cut_text c.len-start.result done told.line after c.truncate.new.self.items c.truncate.ensures.items told.appended start in
     subst (λ (xs : List ℕ). ReadsText old new xs (Ok ends.Mark)) (sym cut)
     (text_at_mark old mid new done after c.lines.invariant.front c.lines.invariant.taken c.in_ok-line_break.line_break 65539 told mark c.lines.invariant.few)
 
