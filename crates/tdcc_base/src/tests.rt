@@ -26,19 +26,30 @@ fn many(alloc: Global, count: usize, rest: &[u8]) -> Result<Vec<u8>, Memory> {
     Ok(bytes)
 }
 
-/// Asserts that the input has this text and these lines, however it comes.
-fn assert_split(rt: &impl Abort, alloc: Global, input: &[u8], end: TextEnd, text: &[u8], wanted: &[&[u8]]) -> Result<(), Fail> {
+/// The text of an input, `#` where a mark stands behind it and `$` where none does, and its lines, each with a `|`.
+/// At most `most` lines are read.
+fn shown<S: Source>(alloc: Global, source: &mut S, most: usize) -> Result<Vec<u8>, Memory> {
+    let mut shown = Vec::new(alloc);
+    let mut lines = Lines::new(alloc, source)?;
+    let end = lines.read_text();
+    shown.extend_from_slice(lines.text())?;
+    shown.push(if end == Ok(TextEnd::Mark) { b'#' } else { b'$' })?;
+    'lines: for _ in 0..most {
+        if lines.read_line() != Ok(LineEnd::Line) {
+            break;
+        }
+        shown.extend_from_slice(lines.line())?;
+        shown.push(b'|')?;
+    }
+    Ok(shown)
+}
+
+/// Asserts that the input is shown so, in pieces of whatever size it comes.
+fn assert_shown(rt: &impl Abort, alloc: Global, input: &[u8], wanted: &[u8]) -> Result<(), Fail> {
     for size in [1, 2, 7, 4096] {
         let mut source = source_of(alloc, input, size)?;
-        let mut lines = Lines::new(alloc, &mut source)?;
-        assert_eq!(rt; lines.read_text(), Ok(end));
-        assert_eq!(rt; lines.text(), text);
-        for line in wanted {
-            assert_eq!(rt; lines.read_line(), Ok(LineEnd::Line));
-            assert_eq!(rt; lines.line(), *line);
-        }
-        assert_eq!(rt; lines.read_line(), Ok(LineEnd::End));
-        assert_eq!(rt; lines.read_line(), Ok(LineEnd::End));
+        let got = shown(alloc, &mut source, 9)?;
+        assert_eq!(rt; got.as_slice(), wanted);
     }
     Ok(())
 }
@@ -46,18 +57,18 @@ fn assert_split(rt: &impl Abort, alloc: Global, input: &[u8], end: TextEnd, text
 #[test]
 fn pieces_of_any_size_make_the_same_lines(rt: HostRuntime) -> Result<(), Fail> {
     let input = b"signal a;\na\n%%\nfirst\n\nthird\r\nlast";
-    assert_split(&rt, rt.alloc(), input, TextEnd::Mark, b"signal a;\na\n", &[b"first", b"", b"third\r", b"last"])
+    assert_shown(&rt, rt.alloc(), input, b"signal a;\na\n#first||third\r|last|")
 }
 
 #[test]
 fn a_mark_is_two_percent_signs_and_it_may_be_a_carriage_return(rt: HostRuntime) -> Result<(), Fail> {
     let alloc = rt.alloc();
-    assert_split(&rt, alloc, b"a\n%%\r\nb\n", TextEnd::Mark, b"a\n", &[b"b"])?;
-    assert_split(&rt, alloc, b"%%\n%%\n", TextEnd::Mark, b"", &[b"%%"])?;
-    assert_split(&rt, alloc, b"a\n%%", TextEnd::Mark, b"a\n", &[])?;
-    assert_split(&rt, alloc, b"a\n%%\r", TextEnd::Mark, b"a\n", &[])?;
-    assert_split(&rt, alloc, b"a\n%% \nb%%\n%%%\n%\n", TextEnd::End, b"a\n%% \nb%%\n%%%\n%\n", &[])?;
-    assert_split(&rt, alloc, b"", TextEnd::End, b"", &[])
+    assert_shown(&rt, alloc, b"a\n%%\r\nb\n", b"a\n#b|")?;
+    assert_shown(&rt, alloc, b"%%\n%%\n", b"#%%|")?;
+    assert_shown(&rt, alloc, b"a\n%%", b"a\n#")?;
+    assert_shown(&rt, alloc, b"a\n%%\r", b"a\n#")?;
+    assert_shown(&rt, alloc, b"a\n%% \nb%%\n%%%\n%\n", b"a\n%% \nb%%\n%%%\n%\n$")?;
+    assert_shown(&rt, alloc, b"", b"$")
 }
 
 /// Reads the text of the input.
