@@ -227,19 +227,17 @@ module _ (old mid new : Option (List ℕ)) (done after : List ℕ) (front : IsTe
       at_feed : (old new : Option (List ℕ)) → Consumes old new (done ++ (a.line ++ 10 ∷ [])) → ReadsText old new after (Err stops.TooLong)
       at_feed None new c = tt
       at_feed (Some bytes) None c = absurd c
-      at_feed (Some bytes) (Some rest) c =
-          (
-            long_at_feed done front bytes a.line rest (c ∙ simp append_assoc) a.no_feed (no_mark breaks.Feed limit a m) (omega (arith, ap length a.appended, long)),
-            (10 ∷ [], omega arith, subst (λ (xs : List ℕ). bytes ≡ (xs ++ 10 ∷ []) ++ rest) (sym a.appended) (c ∙ simp append_assoc)),
-          )
+      at_feed (Some bytes) (Some rest) c = (
+        long_at_feed done front bytes a.line rest (c ∙ simp append_assoc) a.no_feed (no_mark breaks.Feed limit a m) (omega (arith, ap length a.appended, long)),
+        (10 ∷ [], omega arith, subst (λ (xs : List ℕ). bytes ≡ (xs ++ 10 ∷ []) ++ rest) (sym a.appended) (c ∙ simp append_assoc)),
+      )
   text_too_long breaks.End limit a m long = at_end old new (Consumes-then old mid new done a.line taken a.taken.0) a.taken.1
     where
       at_end : (old new : Option (List ℕ)) → Consumes old new (done ++ a.line) → IsAtEnd new → ReadsText old new after (Err stops.TooLong)
       at_end None new c e = tt
       at_end (Some bytes) None c e = absurd c
       at_end (Some bytes) (Some rest) c e =
-          let whole : bytes ≡ done ++ a.line = c ∙ ap (λ ys. (done ++ a.line) ++ ys) e ∙ append-nil (done ++ a.line) in
-          (
+          let whole : bytes ≡ done ++ a.line = c ∙ ap (λ ys. (done ++ a.line) ++ ys) e ∙ append-nil (done ++ a.line) in (
             long_at_end done front bytes a.line whole a.no_feed (no_mark breaks.End limit a m) (omega (arith, ap length a.appended, long)),
             ([], omega arith, subst (λ (xs : List ℕ). bytes ≡ (xs ++ []) ++ rest) (sym a.appended) (c ∙ ap (λ xs. xs ++ rest) (sym (append-nil (done ++ a.line))))),
           )
@@ -267,11 +265,10 @@ module _ (old mid new : Option (List ℕ)) (done after : List ℕ) (front : IsTe
       at_byte : (old new : Option (List ℕ)) → Consumes old new (done ++ longer) → ReadsText old new after (Err stops.TooLong)
       at_byte None new c = tt
       at_byte (Some bytes) None c = absurd c
-      at_byte (Some bytes) (Some rest) c =
-          (
-            long_at_byte done front bytes longer rest (c ∙ append_assoc done longer rest) no_feed (omega (arith, size, full, few)) (omega (arith, size, full, length-append done longer)),
-            (a.taken.0 ∷ [], omega arith, subst (λ (xs : List ℕ). bytes ≡ (xs ++ a.taken.0 ∷ []) ++ rest) (sym a.appended) (c ∙ simp append_assoc)),
-          )
+      at_byte (Some bytes) (Some rest) c = (
+        long_at_byte done front bytes longer rest (c ∙ append_assoc done longer rest) no_feed (omega (arith, size, full, few)) (omega (arith, size, full, length-append done longer)),
+        (a.taken.0 ∷ [], omega arith, subst (λ (xs : List ℕ). bytes ≡ (xs ++ a.taken.0 ∷ []) ++ rest) (sym a.appended) (c ∙ simp append_assoc)),
+      )
 
   -- a line that is no mark is text, with its line feed
   pub text_goes_on : (limit : ℕ) → AppendsLine mid new done after limit (Ok breaks.Feed) → is_mark (drop (length done) after) ≡ false → Consumes old new (after ++ 10 ∷ []) × IsTextFront (after ++ 10 ∷ [])

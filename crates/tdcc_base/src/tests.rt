@@ -1,8 +1,8 @@
 ghost use Rattle.std.specs.Prelude.{◌<◌};
 
 use crate::{
-    Acted, Failed, Gate, LineEnd, Lines, MemSink, MemSource, Memory, OpenGate, ReadStop, Sink, Source, Status,
-    StdSink, StdSource, TextEnd, write_all,
+    Acted, Failed, Gate, LineEnd, Lines, MemSink, MemSource, Memory, OpenGate, ReadStop, Sink,
+    Source, Status, StdSink, StdSource, TextEnd, write_all,
 };
 use std::alloc::Global;
 use std::process::Abort;
@@ -57,17 +57,29 @@ fn assert_shown(rt: &impl Abort, alloc: Global, input: &[u8], wanted: &[u8]) -> 
 #[test]
 fn pieces_of_any_size_make_the_same_lines(rt: HostRuntime) -> Result<(), Fail> {
     let input = b"signal a;\na\n%%\nfirst\n\nthird\r\nlast";
-    assert_shown(&rt, rt.alloc(), input, b"signal a;\na\n#first||third\r|last|")
+    assert_shown(
+        &rt,
+        rt.alloc(),
+        input,
+        b"signal a;\na\n#first||third\r|last|",
+    )
 }
 
 #[test]
-fn a_mark_is_two_percent_signs_and_it_may_be_a_carriage_return(rt: HostRuntime) -> Result<(), Fail> {
+fn a_mark_is_two_percent_signs_and_it_may_be_a_carriage_return(
+    rt: HostRuntime,
+) -> Result<(), Fail> {
     let alloc = rt.alloc();
     assert_shown(&rt, alloc, b"a\n%%\r\nb\n", b"a\n#b|")?;
     assert_shown(&rt, alloc, b"%%\n%%\n", b"#%%|")?;
     assert_shown(&rt, alloc, b"a\n%%", b"a\n#")?;
     assert_shown(&rt, alloc, b"a\n%%\r", b"a\n#")?;
-    assert_shown(&rt, alloc, b"a\n%% \nb%%\n%%%\n%\n", b"a\n%% \nb%%\n%%%\n%\n$")?;
+    assert_shown(
+        &rt,
+        alloc,
+        b"a\n%% \nb%%\n%%%\n%\n",
+        b"a\n%% \nb%%\n%%%\n%\n$",
+    )?;
     assert_shown(&rt, alloc, b"", b"$")
 }
 
@@ -84,11 +96,20 @@ fn a_text_has_at_most_65536_bytes(rt: HostRuntime) -> Result<(), Fail> {
     let whole = many(alloc, 65_536, b"")?;
     assert_eq!(rt; read_text_of(alloc, whole.as_slice())?, Ok(TextEnd::End));
     let long = many(alloc, 65_537, b"")?;
-    assert_eq!(rt; read_text_of(alloc, long.as_slice())?, Err(ReadStop::TooLong));
+    assert_eq!(rt;
+        read_text_of(alloc, long.as_slice())?,
+        Err(ReadStop::TooLong)
+    );
     let with_feed = many(alloc, 65_535, b"\n%%\n")?;
-    assert_eq!(rt; read_text_of(alloc, with_feed.as_slice())?, Ok(TextEnd::Mark));
+    assert_eq!(rt;
+        read_text_of(alloc, with_feed.as_slice())?,
+        Ok(TextEnd::Mark)
+    );
     let feed_too_much = many(alloc, 65_536, b"\n%%\n")?;
-    assert_eq!(rt; read_text_of(alloc, feed_too_much.as_slice())?, Err(ReadStop::TooLong));
+    assert_eq!(rt;
+        read_text_of(alloc, feed_too_much.as_slice())?,
+        Err(ReadStop::TooLong)
+    );
     Ok(())
 }
 
@@ -111,7 +132,10 @@ fn a_line_has_at_most_32768_bytes(rt: HostRuntime) -> Result<(), Fail> {
 #[test]
 fn a_fault_is_answered_again_where_the_source_could_go_on(rt: HostRuntime) -> Result<(), Fail> {
     let alloc = rt.alloc();
-    let pieces = vec![in alloc; vec![in alloc; b'%', b'%', b'\n', b'a']?, vec![in alloc; b'\n']?]?;
+    let pieces = vec![in alloc;
+        vec![in alloc; b'%', b'%', b'\n', b'a']?,
+        vec![in alloc; b'\n']?,
+    ]?;
     let mut source = MemSource::new(pieces, vec![in alloc; 1]?);
     let mut lines = Lines::new(alloc, &mut source)?;
     assert_eq!(rt; lines.read_text(), Ok(TextEnd::Mark));
@@ -121,9 +145,15 @@ fn a_fault_is_answered_again_where_the_source_could_go_on(rt: HostRuntime) -> Re
 }
 
 #[test]
-fn a_source_in_memory_gives_its_pieces_and_fails_where_it_is_told(rt: HostRuntime) -> Result<(), Fail> {
+fn a_source_in_memory_gives_its_pieces_and_fails_where_it_is_told(
+    rt: HostRuntime,
+) -> Result<(), Fail> {
     let alloc = rt.alloc();
-    let pieces = vec![in alloc; b"abcd".to_vec(alloc)?, Vec::new(alloc), b"e".to_vec(alloc)?]?;
+    let pieces = vec![in alloc;
+        b"abcd".to_vec(alloc)?,
+        Vec::new(alloc),
+        b"e".to_vec(alloc)?,
+    ]?;
     let mut source = MemSource::new(pieces, vec![in alloc; 1]?);
     let mut into = [0; 3];
     assert_eq!(rt; source.read(&mut into), Ok(3));
@@ -176,7 +206,9 @@ fn a_reader_of_std_is_a_source(rt: HostRuntime) {
 }
 
 #[test]
-fn a_writer_of_std_is_a_sink_that_fails_where_nothing_is_taken(rt: HostRuntime) -> Result<(), Fail> {
+fn a_writer_of_std_is_a_sink_that_fails_where_nothing_is_taken(
+    rt: HostRuntime,
+) -> Result<(), Fail> {
     let mut bytes = Vec::new(rt.alloc());
     let mut sink = StdSink::new(&mut bytes);
     assert_eq!(rt; write_all(&mut sink, b"abc"), Ok(()));
