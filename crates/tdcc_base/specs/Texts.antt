@@ -5,7 +5,7 @@ use Rattle.tdcc_base.specs.declared.stops.TextEnd.{TextEnd}
 use Rattle.tdcc_base.specs.declared.stops.TextEnd.TheVariants as ends
 use Rattle.tdcc_base.specs.declared.stops.ReadStop.{ReadStop}
 use Rattle.tdcc_base.specs.declared.stops.ReadStop.TheVariants as stops
-use Rattle.tdcc_base.specs.Lines.{first_line, after_line, lines_of, ConsumesOneMore}
+use Rattle.tdcc_base.specs.Lines.{HasNoFeed, first_line, after_line, lines_of, ConsumesOneMore}
 
 -- two percent signs, and it may be a carriage return
 abbrev pub is_mark : List ℕ → Bool
@@ -26,7 +26,7 @@ pub record HasMarkAfter (bytes text trace : List ℕ) : Type 0 where
   pub mark : List ℕ
   pub is_mark : is_mark mark ≡ true
   pub whole : AreWholeLines text
-  pub first : HasNoMark text
+  pub no_mark : HasNoMark text
   pub split : (bytes ≡ text ++ mark ++ 10 ∷ trace) ⊎ ((bytes ≡ text ++ mark) × (trace ≡ []))
 
 -- the text that ends so, and the trace behind it, of these bytes
@@ -72,9 +72,18 @@ pub record IsTextRead (bytes : List ℕ) (new : Option (List ℕ)) (text : List 
   pub is_end : end ≡ end_of bytes
   pub short : length text ≤ 65536
 
+-- whole lines of which none is a mark, and a front of the line behind them
+pub record IsTextSoFar (bytes : List ℕ) : Type 0 where
+  pub lines : List ℕ
+  pub part : List ℕ
+  pub split : bytes ≡ lines ++ part
+  pub whole : AreWholeLines lines
+  pub no_mark : HasNoMark lines
+  pub no_feed : HasNoFeed part
+
 -- A text was read, where the bytes are known. After a fault a front of the bytes was taken, and no more.
 abbrev pub ReadsText : Option (List ℕ) → Option (List ℕ) → List ℕ → Result TextEnd ReadStop → Type 0
 ReadsText None new text result = Unit {0}
 ReadsText (Some bytes) new text (Ok end) = IsTextRead bytes new text end
 ReadsText (Some bytes) new text (Err stops.TooLong) = (65536 < length (text_of bytes)) × ConsumesOneMore (Some bytes) new text
-ReadsText (Some bytes) new text (Err stops.Read) = Consumes (Some bytes) new text
+ReadsText (Some bytes) new text (Err stops.Read) = Consumes (Some bytes) new text × IsTextSoFar text

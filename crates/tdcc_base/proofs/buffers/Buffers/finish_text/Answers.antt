@@ -8,7 +8,7 @@ use Rattle.tdcc_base.specs.declared.stops.ReadStop.{ReadStop}
 use Rattle.tdcc_base.specs.declared.stops.TextEnd.{TextEnd}
 use Rattle.tdcc_base.specs.declared.stops.TextEnd.TheVariants as ends
 use Rattle.tdcc_base.proofs.LineSteps.{retell, err_is}
-use Rattle.tdcc_base.proofs.Splits.{seen_mark, cut_text, text_at_mark, text_at_end, text_too_long, text_stop, text_goes_on, IsTextFront}
+use Rattle.tdcc_base.proofs.TextEnds.{seen_mark, cut_text, text_at_mark, text_at_end, text_too_long, text_stop, text_goes_on, IsTextFront}
 use Rattle.tdcc_base.proofs.buffers.Buffers.finish_text.Goals as goal
 
 pub returns-in_err-line_break-clause-text : goal.returns-in_err-line_break-clause-text

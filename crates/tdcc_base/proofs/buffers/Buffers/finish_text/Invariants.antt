@@ -1,7 +1,7 @@
 use Rattle.std.proofs.Common.{◌≡◌, ◌≤◌, ◌-◌, length}
 use Rattle.std.specs.Io.KnownBytes.{Consumes}
 use Rattle.tdcc_base.specs.Unread.{unread, IsReady, StaysEnded}
-use Rattle.tdcc_base.proofs.Splits.{IsTextFront}
+use Rattle.tdcc_base.proofs.TextEnds.{IsTextFront}
 use Rattle.tdcc_base.proofs.buffers.Buffers.finish_text.Given as goal
 
 abbrev pub invariant-lines : goal.invariant-lines
