@@ -1,4 +1,4 @@
--- Valuation of a cell that entail the same tokens are one value.
+-- Values of a cell that entail the same tokens are one value.
 use Rattle.std.proofs.Common.{◌≡◌, Bool, true, false, ◌&&◌, ℤ, refl, sym, ap, ◌∙◌, arith}
 use Rattle.std.specs.Prelude.{◌≤ℤ◌, IsTrue, int_le}
 use Rattle.std.proofs.lemmas.Int.{ints}

@@ -1,16 +1,16 @@
 -- Tokens entail what is derived from them by the rules, and nothing else.
-use Rattle.std.proofs.Common.{◌≡◌, ◌⊎◌, inl, inr, Bool, true, false, ℤ, List, refl, sym, subst, arith}
+use Rattle.std.proofs.Common.{◌≡◌, ◌⊎◌, inl, inr, ℤ, List, refl, sym, subst, arith}
 use Rattle.std.specs.Prelude.{◌≤ℤ◌, ◌<ℤ◌, ◌↔◌, IsTrue, Contains, All}
 use Rattle.std.proofs.lemmas.Int.{ints}
 use Rattle.std.specs.Int.Signed.{≤ℤ_refl}
 use Rattle.std.proofs.lemmas.List.Elements.{All-contains}
-use Rattle.token_system.specs.Domain.{is_bound, is_cell}
+use Rattle.token_system.specs.Domain.{is_cell}
 use Rattle.token_system.specs.declared.cell.Kind.{Kind}
 use Rattle.token_system.specs.declared.cell.Kind.TheVariants as kinds
 use Rattle.token_system.specs.declared.cell.Cell.{Cell}
 use Rattle.token_system.specs.declared.cell.Token.{Token}
 use Rattle.token_system.specs.declared.cell.Token.TheVariants.{On, Off, AtLeast, AtMost, Clash}
-use Rattle.token_system.specs.Tokens.{Fits, fits_kind, IsLower, IsUpper, AreOpposed, Clashes, TokensEntail, EntailsWithoutClash}
+use Rattle.token_system.specs.Tokens.{Fits, fits_kind, IsLower, IsUpper, Clashes, TokensEntail, EntailsWithoutClash}
 use Rattle.token_system.specs.Rules.{IsDerived, by_itself, by_on_and_off, by_crossed_bounds, by_clash, by_greater_bound, by_smaller_bound, by_least, by_greatest}
 use Rattle.token_system.proofs.Alike.{true_false, within_bound}
 use Rattle.token_system.proofs.Sums.{cell_of}

@@ -1,15 +1,15 @@
 -- Where a key stands among sorted entries, and what an edit at that place does to the map that they make.
-use Rattle.std.proofs.Common.{◌≡◌, ◌⊎◌, ℕ, zero, suc, ◌+◌, ◌<◌, ◌≤◌, Bool, true, false, cond, ◌&&◌, List, [], ◌∷◌, length, get_or, set, Option, Some, None, Result, Ok, Err, IfOk, IfErr, refl, sym, ap, ◌∙◌, subst, inl, inr, arith}
+use Rattle.std.proofs.Common.{◌≡◌, ℕ, zero, suc, ◌<◌, ◌≤◌, Bool, true, false, ◌&&◌, List, [], ◌∷◌, length, get_or, set, Some, None, Result, Ok, Err, IfOk, IfErr, refl, sym, ap, ◌∙◌, subst, arith}
 use Rattle.std.specs.Prelude.{T, slice_get, option_map, map as list_map}
 use Rattle.std.proofs.lemmas.Option.{slice_get-get_or, slice_get-map}
-use Rattle.std.specs.List.{insert, HoldsAt, AllWithin}
-use Rattle.std.specs.List.Sorted.{IsSearchInRange, IsBinarySearchResult, IsNonDecreasingBy, IsPartitionPoint}
-use Rattle.std.specs.Ordering.{ordering_index, ordering_reverse, is_lt, eq_by_cmp}
+use Rattle.std.specs.List.{insert}
+use Rattle.std.specs.List.Sorted.{IsSearchInRange, IsBinarySearchResult, IsNonDecreasingBy}
+use Rattle.std.specs.Ordering.{ordering_index, ordering_reverse, is_lt}
 use Rattle.std.specs.declared.cmp.Ordering.{Ordering}
 use Rattle.std.specs.declared.cmp.Ordering.TheVariants.{Less, Equal, Greater}
 use Rattle.std.specs.Cmp.{IsTotalOrder}
 use Rattle.std.specs.FinMap as map
-use Rattle.std.specs.FinMap.{FinMap, find, put, is_sorted}
+use Rattle.std.specs.FinMap.{find, put, is_sorted}
 use Rattle.std.specs.FinMap.Entries.{below_all, by_order}
 use Rattle.token_system.specs.Places.{IsAt, IsGapFor}
 
@@ -125,11 +125,14 @@ module _ {K X : Type 0} (R : K → K → Ordering) where
     pub searched : map.IsAntisymmetric R → (k : K) (es : List (K × X)) → T (is_sorted R es) → (r : Result ℕ ℕ) → IsSearchInRange r (length es)
         → IsBinarySearchResult (λ e. R e.0 k) es r → IfOk r (IsAt es k) × IfErr r (IsGapFor R es k)
     searched anti k es s (Ok i) within equal = (record { in_range = within; has_key = λ d. anti _ k (equal d) }, tt)
-    searched anti k es s (Err i) within parted = (tt, record {
-      in_range = within;
-      smaller_before = λ j d lt. (parted (comparisons_rise k es s)).0 j d (omega arith) lt;
-      greater_after = λ j d le lt. (parted (comparisons_rise k es s)).1 j d le lt;
-    })
+    searched anti k es s (Err i) within parted = (
+      tt,
+      record {
+        in_range = within;
+        smaller_before = λ j d lt. (parted (comparisons_rise k es s)).0 j d (omega arith) lt;
+        greater_after = λ j d le lt. (parted (comparisons_rise k es s)).1 j d le lt;
+      },
+    )
 
     -- entries with one put in its place are sorted, and make the map with that one inserted
     pub put_sorted : (es : List (K × X)) (k : K) (v : X) → T (is_sorted R es) → T (is_sorted R (put R k v es))

@@ -1,6 +1,6 @@
 -- A proper value that stands for tokens sums them up. So the value with one token more stands for these and that one.
 use Rattle.std.proofs.Common.{◌≡◌, ◌⊎◌, inl, inr, Bool, true, false, ℤ, List, [], ◌∷◌, ◌++◌, refl, sym, subst, arith}
-use Rattle.std.specs.Prelude.{◌≤ℤ◌, ◌<ℤ◌, ◌↔◌, IsTrue, int_le, Contains}
+use Rattle.std.specs.Prelude.{◌≤ℤ◌, ◌↔◌, IsTrue, int_le, Contains}
 use Rattle.std.proofs.lemmas.Int.{ints}
 use Rattle.std.specs.Int.Signed.{≤ℤ_refl}
 use Rattle.std.proofs.lemmas.List.Elements.{Contains-push}
@@ -106,9 +106,11 @@ module _ (lo hi : ℤ) (l : IsTrue (is_cell kinds.Signal lo hi)) (ts : List Toke
     where
       no_clash : Clashes signal ts → ⊥
       no_clash h = true_false (sym ((s Clash refl).1 (refl, inl h)))
+
       on_is : Clashes signal ts ⊎ EntailsWithoutClash signal ts On → Contains ts On
       on_is (inl h) = absurd (no_clash h)
       on_is (inr h) = h
+
       off_is : Clashes signal ts ⊎ EntailsWithoutClash signal ts Off → Contains ts Off
       off_is (inl h) = absurd (no_clash h)
       off_is (inr h) = h

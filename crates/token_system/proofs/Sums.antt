@@ -1,9 +1,9 @@
 -- The value that sums tokens up: of a number the tightest of their bounds, of a signal whether on and off are among them. It stands for them, and with one token more it sums that up too.
 use Rattle.std.proofs.Common.{◌≡◌, ◌⊎◌, inl, inr, Bool, true, false, cond, ◌&&◌, not, ℤ, List, [], ◌∷◌, ◌++◌, refl, sym, subst, arith}
-use Rattle.std.specs.Prelude.{◌≤ℤ◌, ◌<ℤ◌, ◌↔◌, IsTrue, int_le, int_lt, Contains}
+use Rattle.std.specs.Prelude.{◌≤ℤ◌, ◌↔◌, IsTrue, int_le, int_lt, Contains}
 use Rattle.std.proofs.lemmas.Int.{ints}
 use Rattle.std.proofs.lemmas.List.Elements.{Contains-append_left, Contains-push, Contains-push_cases}
-use Rattle.token_system.specs.Domain.{is_bound, is_cell}
+use Rattle.token_system.specs.Domain.{is_cell}
 use Rattle.token_system.specs.declared.cell.Kind.{Kind}
 use Rattle.token_system.specs.declared.cell.Kind.TheVariants as kinds
 use Rattle.token_system.specs.declared.cell.Cell.{Cell}
@@ -12,7 +12,7 @@ use Rattle.token_system.specs.declared.cell.Token.TheVariants.{On, Off, AtLeast,
 use Rattle.token_system.specs.declared.cell.Value.{Value}
 use Rattle.token_system.specs.declared.cell.Value.TheVariants as values
 use Rattle.token_system.specs.Tokens.{Fits, fits_kind, IsLower, IsUpper, Clashes, AreOpposed, TokensEntail, EntailsWithoutClash}
-use Rattle.token_system.specs.Values.{StandsFor, value_with, value_entails, bottom_for, IsProper, OfOneKind}
+use Rattle.token_system.specs.Values.{StandsFor, value_with, value_entails, bottom_for}
 use Rattle.token_system.proofs.Alike.{true_false}
 
 -- the cell of these fields
@@ -103,6 +103,7 @@ module _ (lo hi : ℤ) (l : IsTrue (is_cell kinds.Number lo hi)) where
       low_is : (j : ℤ) → IsLower number [] j → j ≤ℤ lo
       low_is j (inl e) = grind (arith, ints)
       low_is j (inr h) = absurd (none_told (AtLeast j) h)
+
       high_is : (j : ℤ) → IsUpper number [] j → hi ≤ℤ j
       high_is j (inl e) = grind (arith, ints)
       high_is j (inr h) = absurd (none_told (AtMost j) h)

@@ -9,5 +9,4 @@ ghost use Rattle.token_system.specs.declared.cell.Token.{Token};
 pub fn entailment_law()
     ensures { (c : Cell) (ts : List Token) (t : Token) → All (Fits c) ts
         → (TokensEntail c ts t) ↔ (IsDerived c ts t) }
-{
-}
+{}
