@@ -13,7 +13,7 @@ use Rattle.token_system.specs.declared.cell.Token.TheVariants.{On, Off, AtLeast,
 use Rattle.token_system.specs.declared.cell.Value.{Value}
 use Rattle.token_system.specs.declared.cell.Value.TheVariants as values
 use Rattle.token_system.specs.Tokens.{Fits, fits_kind, IsLower, IsUpper, Clashes, TokensEntail, EntailsWithoutClash}
-use Rattle.token_system.specs.Values.{StandsFor, value_entails, value_with, bottom_of, IsProper, OfOneKind}
+use Rattle.token_system.specs.Values.{StandsFor, value_entails, value_with, bottom_of, IsProper, OfOneKind, WithinDomain}
 use Rattle.token_system.proofs.Alike.{true_false, within_bound, le_itself}
 use Rattle.token_system.proofs.Sums.{cell_of, Bounds, Signs, SumsUp, with-sums_up, sum-stands, bottom-sums_up}
 
@@ -128,6 +128,15 @@ module _ (lo hi : ℤ) where
   sums_up_more kinds.Signal l ts (values.Number a b) Clash f o p s = inl (Contains-push ts Clash)
   sums_up_more kinds.Signal l ts (values.Number a b) (AtLeast n) f o p s = absurd (true_false (sym f))
   sums_up_more kinds.Signal l ts (values.Number a b) (AtMost n) f o p s = absurd (true_false (sym f))
+
+-- a value of the cell that stands for tokens sums them up
+pub stands-sums_up : (lo hi : ℤ) (k : Kind) (l : IsTrue (is_cell k lo hi)) (ts : List Token) (v : Value) → WithinDomain lo hi k v → IsProper v → StandsFor (cell_of k lo hi l) v ts → SumsUp (cell_of k lo hi l) k ts v
+stands-sums_up lo hi kinds.Number l ts values.Clash d p s = clash-sums_up (cell_of kinds.Number lo hi l) ts s
+stands-sums_up lo hi kinds.Signal l ts values.Clash d p s = clash-sums_up (cell_of kinds.Signal lo hi l) ts s
+stands-sums_up lo hi kinds.Number l ts (values.Number a b) d p s = number-sums_up lo hi l ts a b p s
+stands-sums_up lo hi kinds.Signal l ts (values.Signal a b) d p s = signal-sums_up lo hi l ts a b p s
+stands-sums_up lo hi kinds.Number l ts (values.Signal a b) d p s = absurd d
+stands-sums_up lo hi kinds.Signal l ts (values.Number a b) d p s = absurd d
 
 -- a value with one token more stands for the tokens and that one
 pub with-stands : (c : Cell) (ts : List Token) (v : Value) (t : Token) → Fits c t → OfOneKind v t → IsProper v → StandsFor c v ts → StandsFor c (value_with v t) (ts ++ t ∷ [])
