@@ -13,11 +13,11 @@ use Rattle.std.specs.FinMap.{find, put, is_sorted}
 use Rattle.std.specs.FinMap.Entries.{below_all, by_order}
 use Rattle.token_system.specs.Places.{IsAt, IsGapFor}
 
-first_of_both : (a b : Bool) → T (a && b) → T a
+pub first_of_both : (a b : Bool) → T (a && b) → T a
 first_of_both true b h = tt
 first_of_both false b h = absurd h
 
-second_of_both : (a b : Bool) → T (a && b) → T b
+pub second_of_both : (a b : Bool) → T (a && b) → T b
 second_of_both true b h = h
 second_of_both false b h = absurd h
 
@@ -37,7 +37,7 @@ module _ {K : Type 0} {R : K → K → Ordering} (o : IsTotalOrder R) where
       go Equal e = refl
       go Greater e = absurd (cc)
 
-  turned_less : (x y : K) → R x y ≡ Less → R y x ≡ Greater
+  pub turned_less : (x y : K) → R x y ≡ Less → R y x ≡ Greater
   turned_less x y e = o.antisymm y x ∙ ap ordering_reverse e
 
   turned_greater : (x y : K) → R x y ≡ Greater → R y x ≡ Less
@@ -50,7 +50,7 @@ module _ {K : Type 0} {R : K → K → Ordering} (o : IsTotalOrder R) where
 
 module _ {K X : Type 0} (R : K → K → Ordering) where
   -- the first key of sorted entries is less than each later one
-  below_each : (x : K) (es : List (K × X)) (j : ℕ) (d : K × X) → T (below_all R x es) → j < length es → R x (get_or es j d).0 ≡ Less
+  pub below_each : (x : K) (es : List (K × X)) (j : ℕ) (d : K × X) → T (below_all R x es) → j < length es → R x (get_or es j d).0 ≡ Less
   below_each x [] j d h lt = absurd (omega arith)
   below_each x (e ∷ es) zero d h lt = less_is _ (first_of_both _ _ h)
   below_each x (e ∷ es) (suc j) d h lt = below_each x es j d (second_of_both _ _ h) (omega arith)
