@@ -1,0 +1,80 @@
+-- The name at the front of a token's text ends where the first byte stands that no name has.
+use Rattle.std.proofs.Common.{◌≡◌, ℕ, zero, suc, ◌+◌, ◌<◌, ◌≤◌, Bool, true, false, ◌&&◌, ◌||◌, List, [], ◌∷◌, ◌++◌, length, take, drop, get_or, Option, refl, sym, ap, ◌∙◌, subst, arith}
+use Rattle.std.specs.Prelude.{IsTrue, codes, nat_le}
+use Rattle.std.specs.List.{list_all}
+use Rattle.std.specs.Char.{is_ascii_alphabetic, is_ascii_alphanumeric}
+use Rattle.std.proofs.lemmas.Bool.Decides.{nat_tests}
+use Rattle.token_system.specs.declared.cell.Token.{Token}
+use Rattle.token_system.specs.declared.reading.Written.{Written}
+use Rattle.token_system.specs.Texts.{is_name, is_name_byte, IsNameFront, IsNamed, IsTail, alone, at_least, at_most, exactly, IsTokenText, off, clash, plain}
+use Rattle.token_system.proofs.Alike.{true_false}
+
+first_true : (a b : Bool) → (a && b) ≡ true → a ≡ true
+first_true true b h = refl
+first_true false b h = h
+
+second_true : (a b : Bool) → (a && b) ≡ true → b ≡ true
+second_true true b h = h
+second_true false b h = absurd (true_false (sym h))
+
+-- no byte that a name has stands first
+abbrev StartsOutside : List ℕ → Type 0
+StartsOutside [] = Unit {0}
+StartsOutside (b ∷ bs) = is_name_byte b ≡ false
+
+tail-outside : (rest : List ℕ) (first : Token) (second : Option Token) → IsTail rest first second → StartsOutside rest
+tail-outside rest first second (alone e f s) = subst StartsOutside (sym e) tt
+tail-outside rest first second (at_least number k e n f s) = subst StartsOutside (sym e) refl
+tail-outside rest first second (at_most number k e n f s) = subst StartsOutside (sym e) refl
+tail-outside rest first second (exactly number k e n f s) = subst StartsOutside (sym e) refl
+
+letter_in_name : (b : ℕ) → is_ascii_alphabetic b ≡ true → is_name_byte b ≡ true
+letter_in_name b h = grind (arith, nat_tests)
+
+-- a name has only bytes that names have
+name_bytes : (name : List ℕ) → IsTrue (is_name name) → list_all is_name_byte name ≡ true
+name_bytes [] h = absurd (true_false (sym h))
+name_bytes (b ∷ bs) h =
+    let both = first_true (is_ascii_alphabetic b && list_all is_name_byte bs) (nat_le (length bs) 31) h in
+    rw (letter_in_name b (first_true (is_ascii_alphabetic b) (list_all is_name_byte bs) both)) (second_true (is_ascii_alphabetic b) (list_all is_name_byte bs) both)
+
+front-length : (name rest : List ℕ) (n : ℕ) → list_all is_name_byte name ≡ true → StartsOutside rest → IsNameFront (name ++ rest) n → n ≡ length name
+front-length [] rest zero all out h = refl
+front-length [] [] (suc n) all out h = absurd (omega (arith, h.within))
+front-length [] (r ∷ rest) (suc n) all out h = absurd (true_false (sym (first_true (is_name_byte r) (list_all is_name_byte (take n rest)) h.name_bytes) ∙ out))
+front-length (b ∷ name) rest zero all out h = absurd (true_false (sym (first_true (is_name_byte b) (list_all is_name_byte name) all) ∙ h.stops (omega arith)))
+front-length (b ∷ name) rest (suc n) all out h = ap suc (front-length name rest n (second_true (is_name_byte b) (list_all is_name_byte name) all) out (record {
+  within = omega (arith, h.within);
+  name_bytes = second_true (is_name_byte b) (list_all is_name_byte (take n (name ++ rest))) h.name_bytes;
+  stops = λ lt. h.stops (omega arith);
+}))
+
+take-own : (xs ys : List ℕ) → take (length xs) (xs ++ ys) ≡ xs
+take-own [] ys = refl
+take-own (x ∷ xs) ys = ap (λ (zs : List ℕ). x ∷ zs) (take-own xs ys)
+
+drop-own : (xs ys : List ℕ) → drop (length xs) (xs ++ ys) ≡ ys
+drop-own [] ys = refl
+drop-own (x ∷ xs) ys = drop-own xs ys
+
+-- where a text is named, the front that names may have is the name, and the rest is the rest
+pub named_parts : (bytes : List ℕ) (n : ℕ) (w : Written) → IsNameFront bytes n → (h : IsNamed bytes w) → (take n bytes ≡ h.name) × (drop n bytes ≡ h.rest)
+named_parts bytes n w front h =
+    let ends = front-length h.name h.rest n (name_bytes h.name h.is_a_name) (tail-outside h.rest w.first w.second h.tail) (subst (λ (bs : List ℕ). IsNameFront bs n) h.parts front) in (
+      ap (take n) h.parts ∙ ap (λ m. take m (h.name ++ h.rest)) ends ∙ take-own h.name h.rest,
+      ap (drop n) h.parts ∙ ap (λ m. drop m (h.name ++ h.rest)) ends ∙ drop-own h.name h.rest,
+    )
+
+-- so it is not named where that front is no name
+pub no_name : (bytes : List ℕ) (n : ℕ) (w : Written) → IsNameFront bytes n → is_name (take n bytes) ≡ false → IsNamed bytes w → ⊥
+no_name bytes n w front fails h = true_false (sym h.is_a_name ∙ ap is_name (sym (named_parts bytes n w front h).0) ∙ fails)
+
+-- nor where nothing reads the rest
+pub no_tail : (bytes : List ℕ) (n : ℕ) (w : Written) → IsNameFront bytes n → ((first : Token) (second : Option Token) → IsTail (drop n bytes) first second → ⊥) → IsNamed bytes w → ⊥
+no_tail bytes n w front fails h = fails w.first w.second (subst (λ (bs : List ℕ). IsTail bs w.first w.second) (sym (named_parts bytes n w front h).1) h.tail)
+
+-- a text that begins with neither mark is a name and what follows it
+pub unmarked : (bytes name : List ℕ) (m : ℕ) (w : Written) → bytes ≡ m ∷ name → (m ≡ 33 → ⊥) → (m ≡ 35 → ⊥) → IsTokenText bytes w → IsNamed bytes w
+unmarked bytes name m w e no_off no_clash (off rest e' h s) = absurd (no_off (let same : m ∷ name ≡ 33 ∷ rest = sym e ∙ e' in cc))
+unmarked bytes name m w e no_off no_clash (clash rest e' h s) = absurd (no_clash (let same : m ∷ name ≡ 35 ∷ rest = sym e ∙ e' in cc))
+unmarked bytes name m w e no_off no_clash (plain h) = h
