@@ -8,6 +8,8 @@ pub mod NewNodes
 pub mod Scopes
 pub mod ScopeTests
 pub mod NewsInOrder
+pub mod Depths
+pub mod AskTests
 pub mod OneStore
 pub mod Told
 pub mod Tests

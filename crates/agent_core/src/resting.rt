@@ -1,0 +1,117 @@
+ghost use Rattle.std.specs.Prelude.{◌≡◌, ◌<◌, IfOk, length};
+ghost use Rattle.agent_core.specs.Names.{IsClosure};
+ghost use Rattle.agent_core.specs.Scope.{TokenFits, AskFits};
+ghost use Rattle.agent_core.specs.Stores.{IsStore, Below};
+ghost use Rattle.agent_core.specs.Rests as specs;
+
+use crate::names::name_of;
+use crate::node::{Closure, Constraint, Node};
+use crate::program::Program;
+use std::alloc::Global;
+use token_system::{Memory, Store, Token};
+
+/// Whether the store entails the token of the cell with this number.
+fn holds(
+    alloc: Global,
+    program: &Program,
+    births: &[u32],
+    store: &Store,
+    cell: u32,
+    token: Token,
+) -> Result<bool, Memory>
+    requires store { IsStore program.now store.now }
+    requires fits { TokenFits program.now births.now (record { 0 = cell; 1 = token }) }
+    ensures { IfOk result (λ b. b ≡ specs.holds program.now births.now store.now (record { 0 = cell; 1 = token })) }
+{
+    let name = name_of(alloc, program, births, cell)?;
+    let decl = &program.cells()[cell as usize];
+    Ok(store.entails(&name, decl.cell, token))
+}
+
+/// Whether the store entails each token of the constraint.
+fn entails(
+    alloc: Global,
+    program: &Program,
+    births: &[u32],
+    store: &Store,
+    ask: &Constraint,
+) -> Result<bool, Memory>
+    requires store { IsStore program.now store.now }
+    requires fits { AskFits program.now births.now ask.now }
+    ensures { IfOk result (λ b. b ≡ specs.entails program.now births.now store.now ask.now) }
+{
+    for (cell, token) in ask.list() {
+        if !holds(alloc, program, births, store, *cell, *token)? {
+            return Ok(false);
+        }
+    }
+    Ok(true)
+}
+
+/// The same as `rests`, for the node with these births.
+fn node_rests(
+    alloc: Global,
+    program: &Program,
+    node: u32,
+    births: &[u32],
+    t: u32,
+    u: &Store,
+    v: &Store,
+) -> Result<bool, Memory>
+    requires closure { IsClosure program.now node births.now }
+    requires store { IsStore program.now u.now }
+    requires guess { IsStore program.now v.now }
+    ensures { IfOk result (λ b. b ≡ specs.rests program.now node births.now t u.now v.now) }
+{
+    match &program.nodes()[node as usize] {
+        Node::Skip | Node::Hence { .. } | Node::Next { .. } => Ok(true),
+        Node::Tell(ask) => entails(alloc, program, births, u, ask),
+        Node::Par { left, right } => {
+            if !node_rests(alloc, program, *left, births, t, u, v)? {
+                return Ok(false);
+            }
+            node_rests(alloc, program, *right, births, t, u, v)
+        }
+        Node::Then { ask, body } => {
+            if entails(alloc, program, births, u, ask)?
+                && !node_rests(alloc, program, *body, births, t, u, v)?
+            {
+                return Ok(false);
+            }
+            if !entails(alloc, program, births, v, ask)? {
+                return Ok(true);
+            }
+            node_rests(alloc, program, *body, births, t, v, v)
+        }
+        Node::Else { ask, body } => {
+            if entails(alloc, program, births, v, ask)? {
+                return Ok(true);
+            }
+            node_rests(alloc, program, *body, births, t, u, v)
+        }
+        Node::New { body, .. } => {
+            let mut inner = births.to_vec(alloc)?;
+            inner.push(t)?;
+            node_rests(alloc, program, *body, &inner, t, u, v)
+        }
+    }
+}
+
+/// Whether the closure, started at instant t, rests under the store u and the guess v of the
+/// instant's final store.
+pub fn rests(
+    alloc: Global,
+    program: &Program,
+    closure: &Closure,
+    t: u32,
+    u: &Store,
+    v: &Store,
+) -> Result<bool, Memory>
+    requires closure { IsClosure program.now closure.now.node closure.now.births }
+    requires store { IsStore program.now u.now }
+    requires guess { IsStore program.now v.now }
+    requires below { Below program.now u.now v.now }
+    ensures { IfOk result (λ b. b ≡ specs.rests program.now closure.now.node closure.now.births t u.now v.now) }
+{
+    node_rests(alloc, program, closure.node, closure.births.list(), t, u, v)
+}
