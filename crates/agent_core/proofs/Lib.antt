@@ -10,6 +10,7 @@ pub mod ScopeTests
 pub mod NewsInOrder
 pub mod Depths
 pub mod AskTests
+pub mod RestTests
 pub mod OneStore
 pub mod Told
 pub mod Tests

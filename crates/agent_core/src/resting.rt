@@ -41,7 +41,8 @@ fn entails(
     ensures { IfOk result (λ b. b ≡ specs.entails program.now births.now store.now ask.now) }
 {
     for (cell, token) in ask.list() {
-        if !holds(alloc, program, births, store, *cell, *token)? {
+        let held = holds(alloc, program, births, store, *cell, *token)?;
+        if !held {
             return Ok(false);
         }
     }
@@ -67,24 +68,29 @@ fn node_rests(
         Node::Skip | Node::Hence { .. } | Node::Next { .. } => Ok(true),
         Node::Tell(ask) => entails(alloc, program, births, u, ask),
         Node::Par { left, right } => {
-            if !node_rests(alloc, program, *left, births, t, u, v)? {
+            let left_rests = node_rests(alloc, program, *left, births, t, u, v)?;
+            if !left_rests {
                 return Ok(false);
             }
             node_rests(alloc, program, *right, births, t, u, v)
         }
         Node::Then { ask, body } => {
-            if entails(alloc, program, births, u, ask)?
-                && !node_rests(alloc, program, *body, births, t, u, v)?
-            {
-                return Ok(false);
+            let runs = entails(alloc, program, births, u, ask)?;
+            if runs {
+                let body_rests = node_rests(alloc, program, *body, births, t, u, v)?;
+                if !body_rests {
+                    return Ok(false);
+                }
             }
-            if !entails(alloc, program, births, v, ask)? {
+            let runs_at_last = entails(alloc, program, births, v, ask)?;
+            if !runs_at_last {
                 return Ok(true);
             }
             node_rests(alloc, program, *body, births, t, v, v)
         }
         Node::Else { ask, body } => {
-            if entails(alloc, program, births, v, ask)? {
+            let refuted = entails(alloc, program, births, v, ask)?;
+            if refuted {
                 return Ok(true);
             }
             node_rests(alloc, program, *body, births, t, u, v)
