@@ -13,6 +13,6 @@ pub mod AskTests
 pub mod RestTests
 pub mod OneStore
 pub mod Told
-pub mod Tests
+pub mod Bools
 pub mod Tellings
 pub mod Rows

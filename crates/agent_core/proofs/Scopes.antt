@@ -15,7 +15,7 @@ use Rattle.agent_core.specs.Names.{Names, name_of, local_name, new_of, depth_of,
 use Rattle.agent_core.specs.Facts.{IsAmong, IsInScope, AreInScope, IsConstraint, Scoped, IsProgram}
 use Rattle.agent_core.specs.Scope.{TokenFits, AskFits, AgentFits, AlwaysFits}
 use Rattle.agent_core.proofs.Standing.{stands-head}
-use Rattle.agent_core.proofs.ListingTrees.{listed_tree}
+use Rattle.agent_core.proofs.ListingTrees.{listed_tree, has_node}
 use Rattle.agent_core.proofs.Places.{Place, Place-goes_down, GoesDown, each_node, root_place, depth_of-place, size-root, node_of_listing}
 use Rattle.agent_core.proofs.NewNodes.{new_of-one}
 
@@ -148,3 +148,7 @@ AgentFits-under p t (Next a) b d e h = tt
 -- the agent of each closure fits under its births, whenever it is started
 pub closure_fits : (p : CoreProgram) → IsProgram p → (n : ℕ) (b : List ℕ) → IsClosure p n b → (t : ℕ) → AgentFits p t (agent_at p.nodes n) b
 closure_fits p is n b closure t = AgentFits-under p t (agent_at p.nodes n) b (depth_of p.nodes n) closure.long (scoped_fits p is n closure.node)
+
+-- the root without births is a closure
+pub root-IsClosure : (p : CoreProgram) → IsProgram p → IsClosure p 0 []
+root-IsClosure p is = record { node = has_node p.nodes is.tree; long = sym (depth_of-place p.nodes 0 [] (agent_at p.nodes 0) (root_place p.nodes is.tree)) }

@@ -1,8 +1,12 @@
 -- What stores entail goes up with them, and a constraint that is told gives the least store above that entails it.
-use Rattle.std.proofs.Common.{◌≡◌, ℕ, List, [], ◌∷◌, Some, None, refl, sym, subst}
-use Rattle.std.specs.Prelude.{Option, IsTrue, slice_get}
+use Rattle.std.proofs.Common.{◌≡◌, ℕ, List, [], ◌∷◌, Some, None, refl, sym, ap, ◌∙◌, subst}
+use Rattle.std.specs.Prelude.{Option, IsTrue, slice_get, unwrap_or}
 use Rattle.token_system.specs.declared.cell.Token.{Token}
-use Rattle.token_system.specs.Stores.{Valuation}
+use Rattle.std.specs.FinMap.{get, empty, get-empty}
+use Rattle.token_system.specs.declared.cell.Value.{Value}
+use Rattle.token_system.specs.Names.{name_cmp}
+use Rattle.token_system.specs.Values.{bottom_of, value_entails}
+use Rattle.token_system.specs.Stores.{Valuation, value_at}
 use Rattle.agent_core.specs.declared.node.CellDecl.{CellDecl}
 use Rattle.agent_core.specs.Programs.{CoreProgram}
 use Rattle.agent_core.specs.Agents.{Ask}
@@ -11,8 +15,20 @@ use Rattle.agent_core.specs.Stores.{IsStore, Below}
 use Rattle.agent_core.specs.Scope.{TokenFits, AskFits}
 use Rattle.agent_core.specs.Rests.{holds_at, holds, entails}
 use Rattle.agent_core.specs.Tellings.{tell_at, tell_all}
-use Rattle.agent_core.proofs.Told.{Tells, told-Tells}
-use Rattle.agent_core.proofs.Tests.{both, first_of_both, second_of_both}
+use Rattle.agent_core.proofs.OneStore.{value_at-fits}
+use Rattle.agent_core.proofs.Told.{Tells, told-Tells, bottom_covered}
+use Rattle.agent_core.proofs.Bools.{both, first_of_both, second_of_both}
+
+-- the store of which nothing is told
+pub empty-IsStore : (p : CoreProgram) → IsStore p empty
+empty-IsStore p n v e = let f : None ≡ Some v = sym (get-empty name_cmp n) ∙ e in absurd (cc)
+
+-- it is below every store
+pub empty-Below : (p : CoreProgram) (v : Valuation) → IsStore p v → Below p empty v
+empty-Below p v is n d t named f h =
+    let value = value_at-fits p v n d is named in
+    let at_bottom : value_at empty n d.cell ≡ bottom_of d.cell = ap (λ o. unwrap_or o (bottom_of d.cell)) (get-empty name_cmp n) in
+    bottom_covered d.cell.kind d.cell.lo d.cell.hi (value_at v n d.cell) value.0 t f (subst (λ (x : Value). IsTrue (value_entails x t)) at_bottom h)
 
 pub Below-refl : (p : CoreProgram) (u : Valuation) → Below p u u
 Below-refl p u n d t named f h = h

@@ -28,7 +28,7 @@ use Rattle.agent_core.specs.Stores.{IsStore, Below}
 use Rattle.agent_core.proofs.OneStore.{Names-one, value_at-fits}
 
 -- every value of the kind entails what the bottom does
-bottom_covered : (k : Kind) (lo hi : ℤ) (x : Value) → WithinDomain lo hi k x → Covers k (bottom_for k lo hi) x
+pub bottom_covered : (k : Kind) (lo hi : ℤ) (x : Value) → WithinDomain lo hi k x → Covers k (bottom_for k lo hi) x
 bottom_covered k lo hi values.Clash d t f h = refl
 bottom_covered kinds.Signal lo hi (values.Signal a b) d On f h = absurd (true_false (sym h))
 bottom_covered kinds.Signal lo hi (values.Signal a b) d Off f h = absurd (true_false (sym h))
