@@ -1,6 +1,6 @@
 -- Each local cell of a program has one new node, which is the one that is found for it.
-use Rattle.std.proofs.Common.{◌≡◌, ℕ, zero, suc, ◌+◌, ◌-◌, ◌<◌, ◌≤◌, Bool, true, false, not, cond, List, [], ◌∷◌, Some, None, length, refl, sym, ap, ◌∙◌, arith, inl, inr}
-use Rattle.std.specs.Prelude.{Option, slice_get, filter_map, unwrap_or, position, nat_lt, ◌==◌}
+use Rattle.std.proofs.Common.{◌≡◌, ℕ, zero, suc, ◌+◌, ◌-◌, ◌<◌, ◌≤◌, Bool, false, not, cond, List, [], ◌∷◌, Some, None, length, ap, ◌∙◌, arith, inl, inr}
+use Rattle.std.specs.Prelude.{slice_get, filter_map, unwrap_or, nat_lt}
 use Rattle.std.specs.List.{position_or_len}
 use Rattle.std.proofs.lemmas.Bool.{lt-ltb, ltb-false, eq-eqb, ne_eqb, cases_eq}
 use Rattle.std.proofs.lemmas.Option.{slice_get_within}
@@ -47,10 +47,10 @@ new_exists (nodes.New d b ∷ all) first zero e c from to = absurd (cc)
 new_exists (nodes.New d b ∷ all) first (suc n) e c from to = elim (cases_eq d c) [
   | inl same ↦ (0, b, ap (λ (k : ℕ). Some (nodes.New k b)) same)
   | inr other ↦
-    let f : d ≡ first = cc in
-    let rest : filter_map cell_of all ≡ count_up (suc first) n = cc in
-    let found = new_exists all (suc first) n rest c (omega (arith, other)) (omega arith) in
-    (suc found.0, found.1, found.2)
+      let f : d ≡ first = cc in
+      let rest : filter_map cell_of all ≡ count_up (suc first) n = cc in
+      let found = new_exists all (suc first) n rest c (omega (arith, other)) (omega arith) in
+      (suc found.0, found.1, found.2)
 ]
 new_exists (node ∷ all) first n e c from to = let found = new_exists all first n e c from to in (suc found.0, found.1, found.2)
 

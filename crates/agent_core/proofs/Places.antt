@@ -1,5 +1,5 @@
 -- The place of each node in its program's tree, and what a listing in preorder says of its parts.
-use Rattle.std.proofs.Common.{◌≡◌, ℕ, zero, suc, ◌+◌, ◌<◌, List, [], ◌∷◌, ◌++◌, Some, None, length, refl, sym, ap, ◌∙◌, subst, arith, length-append, ◌⊎◌, inl, inr}
+use Rattle.std.proofs.Common.{◌≡◌, ℕ, zero, suc, ◌+◌, ◌<◌, List, [], ◌∷◌, ◌++◌, Some, length, refl, sym, ap, ◌∙◌, subst, arith, length-append, ◌⊎◌, inl, inr}
 use Rattle.std.specs.Prelude.{slice_get}
 use Rattle.std.proofs.lemmas.Option.{slice_get_within, get_or_from_slice_get}
 use Rattle.agent_core.specs.declared.node.Node.{Node}
@@ -131,7 +131,8 @@ node_at_place : (all : List Node) (n : ℕ) (locals : List ℕ) (a : Agent) → 
 node_at_place all n locals Skip h = (nodes.Skip, stands-head h.listed, record { follow = tt; parts = tt; tree = agent_at-node all n nodes.Skip (stands-head h.listed) tt })
 node_at_place all n locals (Tell c) h = (nodes.Tell c, stands-head h.listed, record { follow = tt; parts = tt; tree = agent_at-node all n (nodes.Tell c) (stands-head h.listed) tt })
 node_at_place all n locals (Then c a) h = (
-  nodes.Then c (suc n), stands-head h.listed,
+  nodes.Then c (suc n),
+  stands-head h.listed,
   record {
     follow = refl;
     parts = part_at all n (depth_of all n) (suc n) locals a (omega arith) (sym (depth_of-place all n locals (Then c a) h)) ((Place-goes_down all).then_body n locals c a h);
@@ -139,7 +140,8 @@ node_at_place all n locals (Then c a) h = (
   },
 )
 node_at_place all n locals (Else c a) h = (
-  nodes.Else c (suc n), stands-head h.listed,
+  nodes.Else c (suc n),
+  stands-head h.listed,
   record {
     follow = refl;
     parts = part_at all n (depth_of all n) (suc n) locals a (omega arith) (sym (depth_of-place all n locals (Else c a) h)) ((Place-goes_down all).else_body n locals c a h);
@@ -147,7 +149,8 @@ node_at_place all n locals (Else c a) h = (
   },
 )
 node_at_place all n locals (New cell a) h = (
-  nodes.New cell (suc n), stands-head h.listed,
+  nodes.New cell (suc n),
+  stands-head h.listed,
   record {
     follow = refl;
     parts = part_at all n (suc (depth_of all n)) (suc n) (cell ∷ locals) a (omega arith) (ap suc (sym (depth_of-place all n locals (New cell a) h))) ((Place-goes_down all).new_body n locals cell a h);
@@ -155,7 +158,8 @@ node_at_place all n locals (New cell a) h = (
   },
 )
 node_at_place all n locals (Hence a) h = (
-  nodes.Hence (suc n), stands-head h.listed,
+  nodes.Hence (suc n),
+  stands-head h.listed,
   record {
     follow = refl;
     parts = part_at all n (depth_of all n) (suc n) locals a (omega arith) (sym (depth_of-place all n locals (Hence a) h)) ((Place-goes_down all).hence_body n locals a h);
@@ -163,7 +167,8 @@ node_at_place all n locals (Hence a) h = (
   },
 )
 node_at_place all n locals (Next a) h = (
-  nodes.Next (suc n), stands-head h.listed,
+  nodes.Next (suc n),
+  stands-head h.listed,
   record {
     follow = refl;
     parts = part_at all n (depth_of all n) (suc n) locals a (omega arith) (sym (depth_of-place all n locals (Next a) h)) ((Place-goes_down all).next_body n locals a h);
@@ -174,7 +179,8 @@ node_at_place all n locals (Par a b) h =
     let d = sym (depth_of-place all n locals (Par a b) h) in
     let left = (Place-goes_down all).left n locals a b h in
     let right = (Place-goes_down all).right n locals a b h in (
-      nodes.Par (suc n) (suc n + size a), stands-head h.listed,
+      nodes.Par (suc n) (suc n + size a),
+      stands-head h.listed,
       record {
         follow = (refl, ap (λ (x : Agent). suc n + size x) (sym (listed_tree all (suc n) a left.listed)));
         parts = (

@@ -1,5 +1,5 @@
 -- The test whether a node rests, by the kind of the node.
-use Rattle.std.proofs.Common.{◌≡◌, ℕ, suc, ◌+◌, ◌<◌, Bool, true, false, ◌&&◌, ◌||◌, not, List, [], ◌∷◌, ◌++◌, Some, length, get_or, refl, sym, ap, ◌∙◌, subst, arith, length-append, ◌⊎◌, inl, inr}
+use Rattle.std.proofs.Common.{◌≡◌, ℕ, ◌<◌, Bool, true, false, ◌&&◌, not, List, [], ◌∷◌, ◌++◌, Some, length, get_or, refl, sym, ap, ◌∙◌, subst, arith, length-append, ◌⊎◌, inl, inr}
 use Rattle.std.specs.Prelude.{Result, IfOk, slice_get}
 use Rattle.std.proofs.lemmas.Option.{slice_get_read}
 use Rattle.token_system.specs.Stores.{Valuation}
@@ -11,7 +11,7 @@ use Rattle.agent_core.specs.Names.{depth_of, IsClosure}
 use Rattle.agent_core.specs.Facts.{IsProgram}
 use Rattle.agent_core.specs.Scope.{AskFits}
 use Rattle.agent_core.specs.Rests.{◌⇒◌, entails, agent_rests, rests}
-use Rattle.agent_core.proofs.Parts.{IsPart, depth_within}
+use Rattle.agent_core.proofs.Parts.{IsPart}
 use Rattle.agent_core.proofs.Places.{IsNodeAt, node_of_listing}
 use Rattle.agent_core.proofs.Scopes.{ask_of, node_fits}
 

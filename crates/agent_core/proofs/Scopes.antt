@@ -1,18 +1,17 @@
 -- Each constraint of a program has a meaning under any births, as many as new nodes enclose it.
-use Rattle.std.proofs.Common.{◌≡◌, ℕ, zero, suc, ◌+◌, ◌<◌, ◌≤◌, Bool, true, false, List, [], ◌∷◌, ◌++◌, Some, length, take, refl, sym, ap, ◌∙◌, subst, arith, length-append, ◌⊎◌, inl, inr}
+use Rattle.std.proofs.Common.{◌≡◌, ℕ, suc, ◌+◌, ◌<◌, Bool, true, false, List, [], ◌∷◌, ◌++◌, Some, length, refl, sym, ap, ◌∙◌, subst, arith, length-append, ◌⊎◌, inl, inr}
 use Rattle.std.specs.Prelude.{slice_get, nat_lt, if◌then◌else◌}
 use Rattle.std.proofs.lemmas.Bool.{lt-ltb, ltb-true, false≢true}
 use Rattle.std.proofs.lemmas.List.{length-take}
 use Rattle.token_system.specs.declared.cell.Token.{Token}
 use Rattle.token_system.specs.declared.name.CellName.TheVariants.{Declared}
-use Rattle.agent_core.specs.declared.node.CellDecl.{CellDecl}
 use Rattle.agent_core.specs.declared.node.Node.{Node}
 use Rattle.agent_core.specs.declared.node.Node.TheVariants as nodes
 use Rattle.agent_core.specs.Programs.{CoreProgram}
 use Rattle.agent_core.specs.Agents.{Agent, Ask, Skip, Tell, Then, Else, Par, New, Hence, Next, agent_of, agent_at}
 use Rattle.agent_core.specs.Listing.{size}
-use Rattle.agent_core.specs.Names.{Names, name_of, local_name, new_of, depth_of, IsClosure}
-use Rattle.agent_core.specs.Facts.{IsAmong, IsInScope, AreInScope, IsConstraint, Scoped, IsProgram}
+use Rattle.agent_core.specs.Names.{Names, local_name, new_of, depth_of, IsClosure}
+use Rattle.agent_core.specs.Facts.{IsAmong, IsInScope, AreInScope, Scoped, IsProgram}
 use Rattle.agent_core.specs.Scope.{TokenFits, AskFits, AgentFits, AlwaysFits}
 use Rattle.agent_core.proofs.Standing.{stands-head}
 use Rattle.agent_core.proofs.ListingTrees.{listed_tree, has_node}
@@ -77,7 +76,8 @@ pair_fits p is locals news pair scope b long = record { decl = scope.decl; found
         let found = new_node p locals pair.0 news among in
         let one = new_of-one p is found.0 pair.0 found.1 found.2 in
         let deep : depth_of p.nodes (new_of p.nodes pair.0) < length locals = subst (λ (m : ℕ). depth_of p.nodes m < length locals) (sym one) found.3 in (
-          pair.0, found.1,
+          pair.0,
+          found.1,
           ap (λ (m : ℕ). slice_get p.nodes m) one ∙ found.2,
           scope.found,
           omega (arith, length-take (suc (depth_of p.nodes (new_of p.nodes pair.0))) b),

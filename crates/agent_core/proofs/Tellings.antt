@@ -2,7 +2,7 @@
 use Rattle.std.proofs.Common.{◌≡◌, ℕ, List, [], ◌∷◌, Some, None, refl, sym, ap, ◌∙◌, subst}
 use Rattle.std.specs.Prelude.{Option, IsTrue, slice_get, unwrap_or}
 use Rattle.token_system.specs.declared.cell.Token.{Token}
-use Rattle.std.specs.FinMap.{get, empty, get-empty}
+use Rattle.std.specs.FinMap.{empty, get-empty}
 use Rattle.token_system.specs.declared.cell.Value.{Value}
 use Rattle.token_system.specs.Names.{name_cmp}
 use Rattle.token_system.specs.Values.{bottom_of, value_entails}

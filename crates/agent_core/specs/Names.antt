@@ -1,6 +1,6 @@
 -- The cells of a program and their names. A local cell is named by its new node and by the instants at which that
 -- node and the new nodes around it were started, in place of existential hiding. This project's own.
-use Rattle.std.specs.Prelude.{◌≡◌, ℕ, suc, ◌+◌, ◌<◌, Bool, false, if◌then◌else◌, List, [], ◌∷◌, ◌++◌, length, take, position, unwrap_or, Some, slice_get, slice_index, nat_lt, ◌==◌}
+use Rattle.std.specs.Prelude.{◌≡◌, ℕ, suc, ◌<◌, Bool, false, if◌then◌else◌, List, [], ◌∷◌, ◌++◌, length, take, position, unwrap_or, Some, slice_get, slice_index, nat_lt, ◌==◌}
 use Rattle.token_system.specs.declared.name.CellName.{CellName}
 use Rattle.token_system.specs.declared.name.CellName.TheVariants.{Declared, Local}
 use Rattle.agent_core.specs.declared.node.Node.{Node}

@@ -16,4 +16,3 @@ tell_at None p b u cell t = u
 abbrev pub tell_all : CoreProgram → List ℕ → Ask → Valuation → Valuation
 tell_all p b [] u = u
 tell_all p b (pair ∷ ask) u = tell_all p b ask (tell_at (slice_get p.cells pair.0) p b u pair.0 pair.1)
-

@@ -6,7 +6,7 @@ ghost use Rattle.agent_core.specs.Drafts.{locals_of, core_of};
 
 use crate::node::{CellDecl, Constraint, Node};
 use crate::preorder::is_preorder;
-use token_system::{fits, Token};
+use token_system::{Token, fits};
 
 /// The local cells of the new nodes around a place, innermost first.
 #[derive(Drop)]

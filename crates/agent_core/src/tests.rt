@@ -6,7 +6,7 @@ ghost use Rattle.agent_core.specs.Stores.{IsStore};
 ghost use Rattle.token_system.specs.declared.name.CellName.TheVariants.{Declared as DeclaredName};
 ghost use Rattle.token_system.specs.declared.cell.Kind.TheVariants.{Signal as SignalKind};
 
-use crate::{rests, CellDecl, Closure, Constraint, Name, Node, Program};
+use crate::{CellDecl, Closure, Constraint, Name, Node, Program, rests};
 use std::alloc::Global;
 use std::test::Fail;
 use token_system::{Births, Cell, CellName, Kind, Store, Token};

@@ -29,8 +29,8 @@ entails-requires-in-Else-clause-fits t c =
 pub node_rests-requires : goal.node_rests-requires
 node_rests-requires t c =
     let part =
-        left_of c.args.program.now c.nodes.ensures.program c.args.node c.args.births.now c.requires.closure c.in-Par.left c.in-Par.right
-        (node_found c.args.program.now c.nodes.result.now c.args.node c.index-nodes-node.result c.nodes.ensures.all c.requires.closure.node c.index-nodes-node.is ∙ ap Some c.in-Par.is) in
+    left_of c.args.program.now c.nodes.ensures.program c.args.node c.args.births.now c.requires.closure c.in-Par.left c.in-Par.right
+    (node_found c.args.program.now c.nodes.result.now c.args.node c.index-nodes-node.result c.nodes.ensures.all c.requires.closure.node c.index-nodes-node.is ∙ ap Some c.in-Par.is) in
     let above = part.above in
     let inside = part.inside in
     (omega arith, (part.is_closure, (c.requires.store, c.requires.guess)))
@@ -38,8 +38,8 @@ node_rests-requires t c =
 pub node_rests-requires-in-Par : goal.node_rests-requires-in-Par
 node_rests-requires-in-Par t c =
     let part =
-        right_of c.args.program.now c.nodes.ensures.program c.args.node c.args.births.now c.requires.closure c.in-Par.left c.in-Par.right
-        (node_found c.args.program.now c.nodes.result.now c.args.node c.index-nodes-node.result c.nodes.ensures.all c.requires.closure.node c.index-nodes-node.is ∙ ap Some c.in-Par.is) in
+    right_of c.args.program.now c.nodes.ensures.program c.args.node c.args.births.now c.requires.closure c.in-Par.left c.in-Par.right
+    (node_found c.args.program.now c.nodes.result.now c.args.node c.index-nodes-node.result c.nodes.ensures.all c.requires.closure.node c.index-nodes-node.is ∙ ap Some c.in-Par.is) in
     let above = part.above in
     let inside = part.inside in
     (omega arith, (part.is_closure, (c.requires.store, c.requires.guess)))
@@ -47,8 +47,8 @@ node_rests-requires-in-Par t c =
 pub node_rests-requires-then-runs : goal.node_rests-requires-then-runs
 node_rests-requires-then-runs t c =
     let part =
-        then_body c.args.program.now c.nodes.ensures.program c.args.node c.args.births.now c.requires.closure c.in-Then.ask c.in-Then.body
-        (node_found c.args.program.now c.nodes.result.now c.args.node c.index-nodes-node.result c.nodes.ensures.all c.requires.closure.node c.index-nodes-node.is ∙ ap Some c.in-Then.is) in
+    then_body c.args.program.now c.nodes.ensures.program c.args.node c.args.births.now c.requires.closure c.in-Then.ask c.in-Then.body
+    (node_found c.args.program.now c.nodes.result.now c.args.node c.index-nodes-node.result c.nodes.ensures.all c.requires.closure.node c.index-nodes-node.is ∙ ap Some c.in-Then.is) in
     let above = part.above in
     let inside = part.inside in
     (omega arith, (part.is_closure, (c.requires.store, c.requires.guess)))
@@ -56,8 +56,8 @@ node_rests-requires-then-runs t c =
 pub node_rests-requires-in-Then : goal.node_rests-requires-in-Then
 node_rests-requires-in-Then t c =
     let part =
-        then_body c.args.program.now c.nodes.ensures.program c.args.node c.args.births.now c.requires.closure c.in-Then.ask c.in-Then.body
-        (node_found c.args.program.now c.nodes.result.now c.args.node c.index-nodes-node.result c.nodes.ensures.all c.requires.closure.node c.index-nodes-node.is ∙ ap Some c.in-Then.is) in
+    then_body c.args.program.now c.nodes.ensures.program c.args.node c.args.births.now c.requires.closure c.in-Then.ask c.in-Then.body
+    (node_found c.args.program.now c.nodes.result.now c.args.node c.index-nodes-node.result c.nodes.ensures.all c.requires.closure.node c.index-nodes-node.is ∙ ap Some c.in-Then.is) in
     let above = part.above in
     let inside = part.inside in
     (omega arith, (part.is_closure, (c.requires.guess, c.requires.guess)))
@@ -65,8 +65,8 @@ node_rests-requires-in-Then t c =
 pub node_rests-requires-in-Else : goal.node_rests-requires-in-Else
 node_rests-requires-in-Else t c =
     let part =
-        else_body c.args.program.now c.nodes.ensures.program c.args.node c.args.births.now c.requires.closure c.in-Else.ask c.in-Else.body
-        (node_found c.args.program.now c.nodes.result.now c.args.node c.index-nodes-node.result c.nodes.ensures.all c.requires.closure.node c.index-nodes-node.is ∙ ap Some c.in-Else.is) in
+    else_body c.args.program.now c.nodes.ensures.program c.args.node c.args.births.now c.requires.closure c.in-Else.ask c.in-Else.body
+    (node_found c.args.program.now c.nodes.result.now c.args.node c.index-nodes-node.result c.nodes.ensures.all c.requires.closure.node c.index-nodes-node.is ∙ ap Some c.in-Else.is) in
     let above = part.above in
     let inside = part.inside in
     (omega arith, (part.is_closure, (c.requires.store, c.requires.guess)))
@@ -75,8 +75,8 @@ pub node_rests-requires-in-New : goal.node_rests-requires-in-New
 node_rests-requires-in-New t c =
     let grown : c.deref.result.now ≡ c.args.births.now ++ c.args.t ∷ [] = c.deref.ensures.value ∙ c.in_ok-push-in-New.ensures.items ∙ ap (λ (xs : List ℕ). xs ++ c.args.t ∷ []) (c.in_ok-inner-in-New.ensures.items_if_clones_equal (λ x y h. h)) in
     let part =
-        new_body c.args.program.now c.nodes.ensures.program c.args.node c.args.births.now c.requires.closure c.in-New.cell c.in-New.body c.args.t
-        (node_found c.args.program.now c.nodes.result.now c.args.node c.index-nodes-node.result c.nodes.ensures.all c.requires.closure.node c.index-nodes-node.is ∙ ap Some c.in-New.is) in
+    new_body c.args.program.now c.nodes.ensures.program c.args.node c.args.births.now c.requires.closure c.in-New.cell c.in-New.body c.args.t
+    (node_found c.args.program.now c.nodes.result.now c.args.node c.index-nodes-node.result c.nodes.ensures.all c.requires.closure.node c.index-nodes-node.is ∙ ap Some c.in-New.is) in
     let above = part.above in
     let inside = part.inside in
     (omega arith, (subst (IsClosure c.args.program.now c.in-New.body) (sym grown) part.is_closure, (c.requires.store, c.requires.guess)))
@@ -86,9 +86,9 @@ returns-in_ok-push-in-New t c =
     let grown : c.deref.result.now ≡ c.args.births.now ++ c.args.t ∷ [] = c.deref.ensures.value ∙ c.in_ok-push-in-New.ensures.items ∙ ap (λ (xs : List ℕ). xs ++ c.args.t ∷ []) (c.in_ok-inner-in-New.ensures.items_if_clones_equal (λ x y h. h)) in
     same_answer c.node_rests-in-New.result (rests c.args.program.now c.in-New.body c.deref.result.now c.args.t c.args.u.now c.args.v.now) (rests c.args.program.now c.args.node c.args.births.now c.args.t c.args.u.now c.args.v.now)
     (
-      ap (λ (b : List ℕ). rests c.args.program.now c.in-New.body b c.args.t c.args.u.now c.args.v.now) grown
-          ∙ new-rests c.args.program.now c.nodes.ensures.program c.args.node c.args.births.now c.requires.closure c.args.t c.args.u.now c.args.v.now c.in-New.cell c.in-New.body
-              (node_found c.args.program.now c.nodes.result.now c.args.node c.index-nodes-node.result c.nodes.ensures.all c.requires.closure.node c.index-nodes-node.is ∙ ap Some c.in-New.is)
+    ap (λ (b : List ℕ). rests c.args.program.now c.in-New.body b c.args.t c.args.u.now c.args.v.now) grown
+    ∙ new-rests c.args.program.now c.nodes.ensures.program c.args.node c.args.births.now c.requires.closure c.args.t c.args.u.now c.args.v.now c.in-New.cell c.in-New.body
+    (node_found c.args.program.now c.nodes.result.now c.args.node c.index-nodes-node.result c.nodes.ensures.all c.requires.closure.node c.index-nodes-node.is ∙ ap Some c.in-New.is)
     )
     c.node_rests-in-New.ensures
 
@@ -111,7 +111,7 @@ pub returns-in-Tell : goal.returns-in-Tell
 returns-in-Tell t c =
     same_answer c.entails.result (entails c.args.program.now c.args.births.now c.args.u.now c.in-Tell.ask) (rests c.args.program.now c.args.node c.args.births.now c.args.t c.args.u.now c.args.v.now)
     (tell-rests c.args.program.now c.nodes.ensures.program c.args.node c.args.births.now c.requires.closure c.args.t c.args.u.now c.args.v.now c.in-Tell.ask
-        (node_found c.args.program.now c.nodes.result.now c.args.node c.index-nodes-node.result c.nodes.ensures.all c.requires.closure.node c.index-nodes-node.is ∙ ap Some c.in-Tell.is))
+    (node_found c.args.program.now c.nodes.result.now c.args.node c.index-nodes-node.result c.nodes.ensures.all c.requires.closure.node c.index-nodes-node.is ∙ ap Some c.in-Tell.is))
     c.entails.ensures
 
 pub returns-then-not-left_rests : goal.returns-then-not-left_rests

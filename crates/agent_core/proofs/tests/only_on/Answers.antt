@@ -16,8 +16,8 @@ pub tell-requires : goal.tell-requires
 tell-requires c =
     let none : IsStore c.args.program.now c.new-store.result = subst (IsStore c.args.program.now) (sym c.new-store.ensures) (empty-IsStore c.args.program.now) in
     let same : c.index-cells-0.result ≡ c.requires.0 =
-        c.index-cells-0.is ∙ ap (λ (xs : List CellDecl). get_or xs 0 c.index-cells-0.result) c.cells.ensures.all
-        ∙ get_or_from_slice_get c.args.program.now.cells 0 c.requires.0 c.index-cells-0.result c.requires.1.1 in
+    c.index-cells-0.is ∙ ap (λ (xs : List CellDecl). get_or xs 0 c.index-cells-0.result) c.cells.ensures.all
+    ∙ get_or_from_slice_get c.args.program.now.cells 0 c.requires.0 c.index-cells-0.result c.requires.1.1 in
     let named : Names c.args.program.now (Declared 0) c.index-cells-0.result = subst (Names c.args.program.now (Declared 0)) (sym same) c.requires.1 in
     let fits : Fits c.index-cells-0.result.cell On = subst (λ (d : CellDecl). Fits d.cell On) (sym same) (ap (λ (k : Kind). fits_kind k On) c.requires.2) in
     can_hold c.args.program.now c.new-store.result (Declared 0) c.index-cells-0.result On none named fits
@@ -26,8 +26,8 @@ pub returns : goal.returns
 returns c =
     let none : IsStore c.args.program.now c.new-store.result = subst (IsStore c.args.program.now) (sym c.new-store.ensures) (empty-IsStore c.args.program.now) in
     let same : c.index-cells-0.result ≡ c.requires.0 =
-        c.index-cells-0.is ∙ ap (λ (xs : List CellDecl). get_or xs 0 c.index-cells-0.result) c.cells.ensures.all
-        ∙ get_or_from_slice_get c.args.program.now.cells 0 c.requires.0 c.index-cells-0.result c.requires.1.1 in
+    c.index-cells-0.is ∙ ap (λ (xs : List CellDecl). get_or xs 0 c.index-cells-0.result) c.cells.ensures.all
+    ∙ get_or_from_slice_get c.args.program.now.cells 0 c.requires.0 c.index-cells-0.result c.requires.1.1 in
     let named : Names c.args.program.now (Declared 0) c.index-cells-0.result = subst (Names c.args.program.now (Declared 0)) (sym same) c.requires.1 in
     let fits : Fits c.index-cells-0.result.cell On = subst (λ (d : CellDecl). Fits d.cell On) (sym same) (ap (λ (k : Kind). fits_kind k On) c.requires.2) in
     subst (IsStore c.args.program.now) (sym c.in_ok-tell.ensures.ok) (told-Tells c.args.program.now c.new-store.result (Declared 0) c.index-cells-0.result On none named fits).store

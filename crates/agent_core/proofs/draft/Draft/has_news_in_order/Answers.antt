@@ -13,8 +13,7 @@ returns c = Counted-ends c.args.self.nodes.now c.args.self.declared (length c.ar
 pub returns-then-next-self : goal.returns-then-next-self
 returns-then-next-self c =
     let not = Counted-not c.args.self.nodes.now c.args.self.declared (length c.args.self.cells.now) c.loop-node.node-index c.loop-node.next c.node-item.result
-        c.in-New.cell c.in-New.body c.loop-node-test.true (sym c.node-item.is ∙ c.in-New.is) in
-    (
+    c.in-New.cell c.in-New.body c.loop-node-test.true (sym c.node-item.is ∙ c.in-New.is) in (
       λ h. absurd (false≢true h),
       λ h. absurd (elim c.then-next-self.branch [
         | then-next-self-via-then-next-self w ↦ not (inl w.if-next-self.true) c.loop-node.invariant h
@@ -26,9 +25,9 @@ pub loop-node-preserved : goal.loop-node-preserved
 loop-node-preserved c =
     elim c.match-node.branch [
       | in-New+else-next-self+else-cell-next w ↦ subst (Counted c.args.self.nodes.now c.args.self.declared (length c.args.self.cells.now) (c.loop-node.node-index + 1)) (sym w.next-is)
-        (Counted-new c.args.self.nodes.now c.args.self.declared (length c.args.self.cells.now) c.loop-node.node-index c.loop-node.next c.node-item.result
-        w.in-New.cell w.in-New.body c.loop-node-test.true (sym c.node-item.is ∙ w.in-New.is) w.if-cell-next.false w.if-next-self.false c.loop-node.invariant)
+          (Counted-new c.args.self.nodes.now c.args.self.declared (length c.args.self.cells.now) c.loop-node.node-index c.loop-node.next c.node-item.result
+          w.in-New.cell w.in-New.body c.loop-node-test.true (sym c.node-item.is ∙ w.in-New.is) w.if-cell-next.false w.if-next-self.false c.loop-node.invariant)
       | in_default w ↦ subst (Counted c.args.self.nodes.now c.args.self.declared (length c.args.self.cells.now) (c.loop-node.node-index + 1)) (sym w.next-is)
-        (Counted-other c.args.self.nodes.now c.args.self.declared (length c.args.self.cells.now) c.loop-node.node-index c.loop-node.next c.node-item.result
-        c.loop-node-test.true (λ cell body e. w.in_default.not-New cell body (c.node-item.is ∙ e)) c.loop-node.invariant)
+          (Counted-other c.args.self.nodes.now c.args.self.declared (length c.args.self.cells.now) c.loop-node.node-index c.loop-node.next c.node-item.result
+          c.loop-node-test.true (λ cell body e. w.in_default.not-New cell body (c.node-item.is ∙ e)) c.loop-node.invariant)
     ]

@@ -1,4 +1,4 @@
-use Rattle.std.proofs.Common.{◌≤◌, length}
+use Rattle.std.proofs.Common.{length}
 use Rattle.agent_core.proofs.NewsInOrder.{Counted}
 use Rattle.agent_core.proofs.draft.Draft.has_news_in_order.Given as goal
 

@@ -1,4 +1,4 @@
-use Rattle.std.proofs.Common.{refl, sym, ◌∙◌}
+use Rattle.std.proofs.Common.{sym, ◌∙◌}
 use Rattle.std.proofs.lemmas.Bool.{false≢true}
 use Rattle.token_system.specs.declared.cell.Token.TheVariants.{On}
 use Rattle.agent_core.specs.Drafts.{core_of, locals_of}
