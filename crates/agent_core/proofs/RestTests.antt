@@ -37,7 +37,7 @@ module _ (p : CoreProgram) (is : IsProgram p) (n : ℕ) (b : List ℕ) (closure 
   body m part = record { above = part.above; inside = part.inside; is_closure = record { node = part.inside; long = closure.long ∙ sym part.deep } }
 
   pub own_ask_fits : (node : Node) → slice_get p.nodes n ≡ Some node → AskFits p b (ask_of node)
-  own_ask_fits node found = node_fits p is n node found closure.node b closure.long
+  own_ask_fits node found = node_fits p is n node found b closure.long
 
   pub left_of : (left right : ℕ) → slice_get p.nodes n ≡ Some (nodes.Par left right) → IsBodyOf b left
   left_of left right found = body left (facts (nodes.Par left right) found).parts.0

@@ -3,6 +3,7 @@ use Rattle.std.proofs.Common.{◌≡◌, ℕ, suc, ◌+◌, ◌<◌, Bool, true,
 use Rattle.std.specs.Prelude.{slice_get, nat_lt, if◌then◌else◌}
 use Rattle.std.proofs.lemmas.Bool.{lt-ltb, ltb-true, false≢true}
 use Rattle.std.proofs.lemmas.List.{length-take}
+use Rattle.std.proofs.lemmas.Option.{slice_get_within}
 use Rattle.token_system.specs.declared.cell.Token.{Token}
 use Rattle.token_system.specs.declared.name.CellName.TheVariants.{Declared}
 use Rattle.agent_core.specs.declared.node.Node.{Node}
@@ -129,8 +130,9 @@ own_ask p part (nodes.Else ask body) d h b e = h.0 b e
 own_ask p part _ d h b e = tt
 
 -- the constraint of a node fits under the births of its closures
-pub node_fits : (p : CoreProgram) → IsProgram p → (n : ℕ) (node : Node) → slice_get p.nodes n ≡ Some node → n < length p.nodes → (b : List ℕ) → length b ≡ depth_of p.nodes n → AskFits p b (ask_of node)
-node_fits p is n node g lt b e =
+pub node_fits : (p : CoreProgram) → IsProgram p → (n : ℕ) (node : Node) → slice_get p.nodes n ≡ Some node → (b : List ℕ) → length b ≡ depth_of p.nodes n → AskFits p b (ask_of node)
+node_fits p is n node g b e =
+    let lt = slice_get_within p.nodes n node g in
     let tree = (node_of_listing p.nodes is.tree n node g).tree in
     own_ask p (agent_at p.nodes) node (depth_of p.nodes n) (subst (λ (a : Agent). AlwaysFits p a (depth_of p.nodes n)) tree (scoped_fits p is n lt)) b e
 

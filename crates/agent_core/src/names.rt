@@ -56,7 +56,8 @@ fn depth_of(nodes: &[Node], wanted: usize) -> usize
     depth
 }
 
-/// The name of a cell under births.
+/// The name of a cell under the births of the new nodes around it, outermost first: a declared cell
+/// is named by its number, and a local one by its new node and the births up to that node's own.
 pub fn name_of(
     alloc: Global,
     program: &Program,

@@ -104,7 +104,8 @@ fn node_rests(
 }
 
 /// Whether the closure, started at instant t, rests under the store u and the guess v of the
-/// instant's final store.
+/// instant's final store. It goes over the definition itself and takes memory for each name, so it
+/// is meant for tests and for small programs.
 pub fn rests(
     alloc: Global,
     program: &Program,
