@@ -9,6 +9,6 @@ entails-requires c =
 
 pub returns : goal.returns
 returns c =
-    c.entails.ensures
+    c.entails.ensures.value
     ∙ read-holds c.args.program.now c.args.births.now c.args.store.now c.args.cell c.args.token c.requires.store c.requires.fits c.in_ok-name.name c.in_ok-name.ensures
     c.cells.result.now c.cells.ensures.all c.index-cells-cell.result c.index-cells-cell.is
