@@ -15,4 +15,3 @@ pub mod OneStore
 pub mod Told
 pub mod Bools
 pub mod Tellings
-pub mod Rows
