@@ -1,0 +1,11 @@
+pub mod Runs
+pub mod Rows
+pub mod Soundness
+pub mod Traces
+pub mod CoreWords
+pub mod Faults
+pub mod Readings
+pub mod Meanings
+pub mod Beginnings
+pub mod Fronts
+pub mod Places

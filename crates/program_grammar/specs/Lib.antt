@@ -1,0 +1,9 @@
+pub mod Terms
+pub mod Phrases
+pub mod Spelling
+pub mod Programs
+pub mod Alternatives
+pub mod Events
+pub mod Table
+pub mod Machine
+pub mod Reading
