@@ -1,0 +1,9 @@
+pub mod PrefixLengths
+pub mod Spelled
+pub mod LongestLexeme
+pub mod Reading
+pub mod Unique
+pub mod Joined
+pub mod Decimals
+pub mod KindSays
+pub mod Printed

@@ -1,0 +1,13 @@
+use Rattle.std.proofs.Common.{◌≡◌, length}
+use Rattle.program_lexemes.proofs.Reading.{reads_in}
+use Rattle.program_lexemes.proofs.Unique.{unique, no_bad_byte}
+use Rattle.program_lexemes.proofs.lexer.lexemes.Goals as goal
+
+pub returns-in-Ok-Ok-clause-each : goal.returns-in-Ok-Ok-clause-each
+returns-in-Ok-Ok-clause-each c = let read = rw c.in-Ok-Ok.field-0-is at c.in-Ok-Ok.ensures in reads_in c.args.form c.args.text.now c.in-Ok-Ok.found.items 0 (length c.args.text.now) read
+
+pub returns-in-Ok-Ok-clause-only : goal.returns-in-Ok-Ok-clause-only
+returns-in-Ok-Ok-clause-only c = let read = rw c.in-Ok-Ok.field-0-is at c.in-Ok-Ok.ensures in λ ls q. unique c.args.form c.args.text.now c.in-Ok-Ok.found.items ls 0 read q
+
+pub returns-in-Ok-Err-clause-only : goal.returns-in-Ok-Err-clause-only
+returns-in-Ok-Err-clause-only c = let bad = rw c.in-Ok-Err.field-0-is at c.in-Ok-Err.ensures in λ ls q. absurd (no_bad_byte c.args.form c.args.text.now ls bad.before.0 0 c.in-Ok-Err.offset q bad.before.1 bad.within bad.dark bad.none)

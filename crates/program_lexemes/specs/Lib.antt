@@ -1,0 +1,6 @@
+pub mod Spellings
+pub mod Forms
+pub mod Lexemes
+pub mod Prefixes
+pub mod Pieces
+pub mod Numbers

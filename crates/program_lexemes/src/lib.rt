@@ -1,0 +1,19 @@
+//! The lexemes of program texts: names, keywords, numbers and symbols, as the longest match at each place, the first
+//! byte at which none begins, and what a lexeme says.
+#![tactic(auto)]
+
+mod bytes;
+mod keywords;
+mod laws;
+mod lexer;
+mod readers;
+mod symbols;
+#[cfg(test)]
+mod tests;
+
+pub use bytes::TextForm;
+pub use keywords::{Keyword, keyword_of};
+pub use laws::{joined_law, kinds_law, numerals_law};
+pub use lexer::{LexFault, LexKind, Lexeme, MAX_TEXT, lexemes};
+pub use readers::{is_long, lexeme_bytes, number_value};
+pub use symbols::{Symbol, symbol_of};
