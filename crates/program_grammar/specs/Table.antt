@@ -31,10 +31,10 @@ after_token Hash = Some (ClashingName ∷ [])
 after_token _ = None
 
 -- a declaration begins with it
-abbrev pub after_decls : Word → Option (List Part)
-after_decls Signal = Some (DeclaredName ∷ MoreNames ∷ Declarations ∷ [])
-after_decls Int = Some (DeclaredIntName ∷ DomainIn ∷ LowNumber ∷ TheRange ∷ HighNumber ∷ MoreItems ∷ Declarations ∷ [])
-after_decls _ = None
+abbrev pub after_declaration : Word → Option (List Part)
+after_declaration Signal = Some (DeclaredName ∷ MoreNames ∷ Declarations ∷ [])
+after_declaration Int = Some (DeclaredIntName ∷ DomainIn ∷ LowNumber ∷ TheRange ∷ HighNumber ∷ MoreItems ∷ Declarations ∷ [])
+after_declaration _ = None
 
 -- a name of signal stands before it
 abbrev pub after_names : Word → Option (List Part)
@@ -119,7 +119,7 @@ after_close _ = None
 
 -- what is to come after the word, where this part takes it
 abbrev pub after : Part → Word → Option (List Part)
-after Declarations w = after_decls w
+after Declarations w = after_declaration w
 after MoreNames w = after_names w
 after OneUnit w = after_unit w
 after MoreUnits w = after_units w

@@ -8,6 +8,7 @@
 mod laws;
 mod machine;
 mod parts;
+mod table;
 #[cfg(test)]
 mod tests;
 mod words;

@@ -8,7 +8,8 @@ ghost use Rattle.program_grammar.specs.Terms.{Term, classes};
 ghost use Rattle.program_grammar.specs.declared.machine.ParseFault as ParseFault;
 ghost use Rattle.program_grammar.specs.declared.machine.Step.TheVariants.{Left};
 
-use crate::parts::{Part, may_be_absent, parts_after};
+use crate::parts::{Part, may_be_absent};
+use crate::table::parts_after;
 use crate::words::{Language, Word, is_permitted};
 use std::alloc::{AllocError, Global};
 
@@ -130,11 +131,14 @@ fn run_machine(
 pub fn parse(alloc: Global, language: Language, words: &[Word]) -> Result<Vec<Step>, ParseFault>
     requires { length words.now < 2 ^ 32 }
     // What is read are the steps of a program with these words.
-    ensures steps { (terms : List Term) → classes terms ≡ words.now → IfOk result (λ steps. IsReading language terms steps.items) }
+    ensures steps { (terms : List Term) → classes terms ≡ words.now
+        → IfOk result (λ steps. IsReading language terms steps.items) }
     // A refusal says where the words stop to begin a program.
-    ensures fault { (terms : List Term) → classes terms ≡ words.now → IfErr result (IsFaultOf language terms) }
+    ensures fault { (terms : List Term) → classes terms ≡ words.now
+        → IfErr result (IsFaultOf language terms) }
     // A program is read, and no other program has its words.
-    ensures only { (terms : List Term) (p : Program) → classes terms ≡ words.now → Spells language p terms
+    ensures only { (terms : List Term) (p : Program) → classes terms ≡ words.now
+        → Spells language p terms
         → MatchResult result (λ steps. AreSteps p steps.items) (λ fault. fault ≡ ParseFault.Memory) }
 {
     match run_machine(alloc, language, words) {

@@ -5,16 +5,14 @@ use Rattle.std.specs.List.{list_all}
 use Rattle.std.proofs.Math.Seq.{drop-append_seam, take-append_seam, take-append-add}
 use Rattle.std.proofs.lemmas.Bool.{cases_lt}
 use Rattle.std.proofs.lemmas.List.{get_or-append-add, append-nil}
-use Rattle.std.proofs.lemmas.List.Folds.{list_all-append}
 use Rattle.std.proofs.Math.ListN.{get_or-append}
 use Rattle.program_lexemes.specs.declared.lexer.LexKind.{LexKind}
 use Rattle.program_lexemes.specs.declared.lexer.LexKind.TheVariants as kind
-use Rattle.program_lexemes.specs.declared.lexer.Lexeme.{Lexeme}
 use Rattle.program_lexemes.specs.declared.bytes.TextForm.{TextForm}
 use Rattle.program_lexemes.specs.Spellings.{is_keyword, is_symbol}
 use Rattle.program_lexemes.specs.Forms.{is_letter, is_digit, is_word_byte, is_minus, is_dollar, is_white, are_digits, are_few_digits, word_kind, kind_if, kind_of}
 use Rattle.program_lexemes.specs.Lexemes.{IsLongest, AreWhite, Reads}
-use Rattle.program_lexemes.specs.Pieces.{Piece, joined, spans, goes_on, stops, IsCut, AreCut}
+use Rattle.program_lexemes.specs.Pieces.{Piece, joined, spans, goes_on, stops, AreCut}
 use Rattle.program_lexemes.proofs.PrefixLengths.{and_left, and_right}
 use Rattle.program_lexemes.proofs.Spelled.{no_symbol}
 use Rattle.program_lexemes.proofs.LongestLexeme.{kinds}

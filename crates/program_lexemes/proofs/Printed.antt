@@ -1,16 +1,14 @@
 -- Numbers as they are printed: numerals of decimal digits, which are lexemes and have their value.
-use Rattle.std.proofs.Common.{◌≡◌, ℕ, ℤ, pos, neg_ℤ, ◌<◌, ◌≤◌, ◌^◌, List, [], ◌∷◌, length, refl, ap, sym, ◌∙◌, arith, Option, Some, Bool, true, false, decimal}
-use Rattle.std.specs.Prelude.{◌&&◌, ◌||◌, nat_le, nat_lt, if◌then◌else◌}
+use Rattle.std.proofs.Common.{◌≡◌, ℕ, pos, neg_ℤ, ◌<◌, ◌≤◌, ◌^◌, List, [], ◌∷◌, length, refl, ap, ◌∙◌, arith, Some, true, false, decimal}
+use Rattle.std.specs.Prelude.{◌&&◌, ◌||◌, nat_le, if◌then◌else◌}
 use Rattle.std.specs.List.{list_all}
 use Rattle.std.specs.Int.{IsInRange}
-use Rattle.std.specs.Char.{digit_value}
 use Rattle.std.specs.Str.Parse.{AllDigits, digits_value}
 use Rattle.std.proofs.lemmas.Str.Parse.{digit_from_value}
 use Rattle.std.proofs.lemmas.Fmt.{decimal_is_IsNumeral}
 use Rattle.program_lexemes.specs.declared.lexer.LexKind.TheVariants as kind
 use Rattle.program_lexemes.specs.declared.bytes.TextForm.{TextForm}
-use Rattle.program_lexemes.specs.declared.bytes.TextForm.TheVariants.{Core}
-use Rattle.program_lexemes.specs.Forms.{is_letter, is_digit, are_digits, are_few_digits, kind_if, kind_of}
+use Rattle.program_lexemes.specs.Forms.{is_letter, is_digit, are_digits, kind_if, kind_of}
 use Rattle.program_lexemes.specs.Numbers.{number_of}
 use Rattle.program_lexemes.proofs.KindSays.{no_minus}
 use Rattle.program_lexemes.proofs.LongestLexeme.{by_digit}

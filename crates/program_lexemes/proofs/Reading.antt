@@ -1,13 +1,13 @@
 -- What has been read goes on, and where its lexemes lie.
-use Rattle.std.proofs.Common.{◌≡◌, ℕ, ◌+◌, ◌-◌, ◌<◌, ◌≤◌, List, [], ◌∷◌, ◌++◌, length, take, drop, refl, ap, sym, ◌∙◌, arith, true, false, zero, suc, subst, inl, inr, length-drop, Some}
-use Rattle.std.specs.Prelude.{slice_index, slice_index_or, All, ◌⊎◌}
+use Rattle.std.proofs.Common.{◌≡◌, ℕ, ◌+◌, ◌-◌, ◌<◌, ◌≤◌, List, [], ◌∷◌, ◌++◌, length, take, drop, refl, ap, sym, ◌∙◌, arith, true, zero, suc, inl, inr, length-drop}
+use Rattle.std.specs.Prelude.{slice_index, All, ◌⊎◌}
 use Rattle.std.proofs.Math.Seq.{take-length}
 use Rattle.std.proofs.Math.Nat.{eq-or-lt_of_le}
 use Rattle.program_lexemes.specs.declared.lexer.LexKind.{LexKind}
 use Rattle.program_lexemes.specs.declared.lexer.Lexeme.{Lexeme}
 use Rattle.program_lexemes.specs.declared.bytes.TextForm.{TextForm}
 use Rattle.program_lexemes.specs.Forms.{is_white, kind_of}
-use Rattle.program_lexemes.specs.Lexemes.{IsLongest, AreWhite, IsLexeme, Reads, IsIn, bytes_of}
+use Rattle.program_lexemes.specs.Lexemes.{IsLongest, AreWhite, IsLexeme, Reads, IsIn}
 use Rattle.program_lexemes.proofs.LongestLexeme.{has_byte}
 
 none_white : (text : List ℕ) (i : ℕ) → i ≤ length text → AreWhite text i i
@@ -58,3 +58,10 @@ pub reads_in : (form : TextForm) (text : List ℕ) (ls : List Lexeme) (i j : ℕ
 reads_in form text [] i j r k d h = absurd (omega arith)
 reads_in form text (l ∷ ls) i j (w, is, r) zero d h = lexeme_in form text l is
 reads_in form text (l ∷ ls) i j (w, is, r) (suc k) d h = reads_in form text ls l.end j r k d (omega arith)
+
+-- A text has at most as many lexemes as bytes.
+pub reads_few : (form : TextForm) (text : List ℕ) (ls : List Lexeme) (i j : ℕ) → Reads form text i ls j → i + length ls ≤ j
+reads_few form text [] i j w = omega (arith, w.ordered)
+reads_few form text (l ∷ ls) i j (w, is, r) =
+    let inside = lexeme_in form text l is in
+    let rest : l.end + length ls ≤ j = reads_few form text ls l.end j r in omega (arith, w.ordered, inside.ordered, rest)

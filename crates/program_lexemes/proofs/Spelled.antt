@@ -1,14 +1,13 @@
 -- Keywords and symbols, told by their bytes.
 use Rattle.std.proofs.Common.{◌≡◌, ℕ, ◌<◌, ◌≤◌, List, [], ◌∷◌, length, take, refl, ap, sym, ◌∙◌, arith, Option, Some, None, Bool, true, false, inl, inr, subst, bytes_eq}
-use Rattle.std.specs.Prelude.{MatchBool, ◌⊎◌, ◌||◌, IfSome, IfNone, is_some, if◌then◌else◌}
+use Rattle.std.specs.Prelude.{MatchBool, ◌⊎◌, IfSome, IfNone, is_some}
 use Rattle.std.specs.List.{list_any}
-use Rattle.std.proofs.lemmas.Bool.{or_cases, cases_lt}
+use Rattle.std.proofs.lemmas.Bool.{or_cases}
 use Rattle.std.proofs.lemmas.Slice.Eq.{bytes_eq-Decides}
 use Rattle.program_lexemes.specs.declared.keywords.Keyword.{Keyword}
 use Rattle.program_lexemes.specs.declared.keywords.Keyword.TheVariants as keyword
 use Rattle.program_lexemes.specs.declared.symbols.Symbol.{Symbol}
 use Rattle.program_lexemes.specs.declared.symbols.Symbol.TheVariants as symbol
-use Rattle.program_lexemes.specs.declared.lexer.LexKind.{LexKind}
 use Rattle.program_lexemes.specs.Spellings.{keyword_bytes, symbol_bytes, keywords, symbols, is_keyword, is_symbol}
 
 -- what is among some spelled bytes is spelled

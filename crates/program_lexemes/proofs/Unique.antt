@@ -1,5 +1,5 @@
 -- A text has one list of lexemes, or one bad byte.
-use Rattle.std.proofs.Common.{◌≡◌, ℕ, ◌+◌, ◌<◌, ◌≤◌, List, [], ◌∷◌, length, take, drop, refl, ap, sym, ◌∙◌, arith, Option, Some, None, Bool, true, false, zero, suc, subst, inl, inr, get_or, length-drop}
+use Rattle.std.proofs.Common.{◌≡◌, ℕ, ◌+◌, ◌<◌, ◌≤◌, List, [], ◌∷◌, length, take, drop, refl, ap, sym, ◌∙◌, arith, Option, Some, None, true, false, zero, suc, subst, inl, inr, get_or}
 use Rattle.std.specs.Prelude.{slice_index, ◌⊎◌, IsSome, is_some, nat_eq, ◌||◌}
 use Rattle.std.proofs.lemmas.Bool.{or_cases, eqb-true, cases_lt}
 use Rattle.std.proofs.lemmas.List.{get_or-drop}

@@ -1,5 +1,5 @@
 -- Which bytes are a lexeme, and of which kind, in a program text and in a core text. This project's own syntax.
-use Rattle.std.specs.Prelude.{ℕ, List, [], ◌∷◌, length, Bool, true, false, ◌&&◌, ◌||◌, nat_le, nat_eq, if◌then◌else◌, Option, Some, None}
+use Rattle.std.specs.Prelude.{ℕ, List, [], ◌∷◌, length, Bool, false, ◌&&◌, ◌||◌, nat_le, nat_eq, if◌then◌else◌, Option, Some, None}
 use Rattle.std.specs.List.{list_all}
 use Rattle.program_lexemes.specs.Spellings.{is_keyword, is_symbol}
 use Rattle.program_lexemes.specs.declared.lexer.LexKind.{LexKind}

@@ -1,6 +1,6 @@
 -- The lexemes of a text: the longest one at each place, with white space before, between and behind them, and the first
 -- byte at which none begins. This project's own.
-use Rattle.std.specs.Prelude.{◌≡◌, ℕ, ◌+◌, ◌-◌, ◌<◌, ◌≤◌, List, [], ◌∷◌, Bool, true, false, if◌then◌else◌, suc, length, take, drop, Option, Some, None, IsSome, slice_index}
+use Rattle.std.specs.Prelude.{◌≡◌, ℕ, ◌+◌, ◌-◌, ◌<◌, ◌≤◌, List, [], ◌∷◌, true, false, length, take, drop, Some, None, IsSome, slice_index}
 use Rattle.program_lexemes.specs.declared.lexer.LexKind.{LexKind}
 use Rattle.program_lexemes.specs.declared.lexer.Lexeme.{Lexeme}
 use Rattle.program_lexemes.specs.declared.lexer.LexFault.{LexFault}

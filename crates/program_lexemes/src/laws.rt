@@ -11,21 +11,27 @@ ghost use Rattle.program_lexemes.specs.declared.lexer.LexKind.TheVariants as Lex
 /// A text that is put together from lexemes with white space behind them, each cut from what follows it, has these
 /// lexemes and no others.
 pub fn joined_law()
-    ensures { (form : TextForm) (ps : List Piece) → AreCut form ps → AreLexemes form (joined ps) (spans 0 ps) }
+    ensures { (form : TextForm) (ps : List Piece) → AreCut form ps
+        → AreLexemes form (joined ps) (spans 0 ps) }
 {}
 
 /// The bytes of a keyword, a symbol or a number are one.
 pub fn kinds_law()
-    ensures keyword { (form : TextForm) (bytes : List ℕ) → kind_of form bytes ≡ Some LexKind.Keyword → is_keyword bytes ≡ true }
-    ensures symbol { (form : TextForm) (bytes : List ℕ) → kind_of form bytes ≡ Some LexKind.Symbol → is_symbol bytes ≡ true }
-    ensures number { (form : TextForm) (bytes : List ℕ) → kind_of form bytes ≡ Some LexKind.Number → is_number bytes ≡ true }
+    ensures keyword { (form : TextForm) (bytes : List ℕ)
+        → kind_of form bytes ≡ Some LexKind.Keyword → is_keyword bytes ≡ true }
+    ensures symbol { (form : TextForm) (bytes : List ℕ)
+        → kind_of form bytes ≡ Some LexKind.Symbol → is_symbol bytes ≡ true }
+    ensures number { (form : TextForm) (bytes : List ℕ)
+        → kind_of form bytes ≡ Some LexKind.Number → is_number bytes ≡ true }
 {}
 
 /// The decimal numeral of a number, as it is printed, is a lexeme whose value is the number, and so is the numeral
 /// behind a minus, the byte 45, whose value is the negated number.
 pub fn numerals_law()
-    ensures kind { (form : TextForm) (n : ℕ) → n < 2 ^ 64 → kind_of form (decimal n) ≡ Some LexKind.Number }
-    ensures minus_kind { (form : TextForm) (n : ℕ) → n < 2 ^ 64 → kind_of form (45 ∷ decimal n) ≡ Some LexKind.Number }
+    ensures kind { (form : TextForm) (n : ℕ) → n < 2 ^ 64
+        → kind_of form (decimal n) ≡ Some LexKind.Number }
+    ensures minus_kind { (form : TextForm) (n : ℕ) → n < 2 ^ 64
+        → kind_of form (45 ∷ decimal n) ≡ Some LexKind.Number }
     ensures value { (n : ℕ) → n < 2 ^ 64 → number_of (decimal n) ≡ pos n }
     ensures minus_value { (n : ℕ) → n < 2 ^ 64 → number_of (45 ∷ decimal n) ≡ neg_ℤ (pos n) }
 {}

@@ -1,5 +1,5 @@
 // The lexer: the longest lexeme at each place of a text.
-ghost use Rattle.std.specs.Prelude.{◌≡◌, ◌≤◌, All, IfErr, IfOk, List, MatchBool, MatchOption, MatchResult, false, length, take, true};
+ghost use Rattle.std.specs.Prelude.{◌≡◌, ◌≤◌, All, IfErr, IfOk, List, MatchBool, MatchOption, MatchResult, false, length, take, true, vec_len};
 ghost use Rattle.program_lexemes.specs.Forms.{word_kind};
 ghost use Rattle.program_lexemes.specs.Lexemes.{AreLexemes, IsBad, IsFaultOf, IsIn, IsLongest, NoLexeme};
 ghost use Rattle.program_lexemes.specs.Prefixes.{IsLongestFront, NoFront};
@@ -113,7 +113,8 @@ fn read_lexemes(
     text: &[u8],
 ) -> Result<Result<Vec<Lexeme>, u32>, AllocError>
     requires { length text.now ≤ MAX_TEXT }
-    ensures { IfOk result (λ read. MatchResult read (λ ls. AreLexemes form text.now ls.items) (IsBad form text.now)) }
+    ensures { IfOk result (λ read.
+        MatchResult read (λ ls. AreLexemes form text.now ls.items) (IsBad form text.now)) }
 {
     let mut found = Vec::new(alloc);
     let mut at = 0;
@@ -148,6 +149,7 @@ pub fn lexemes(alloc: Global, form: TextForm, text: &[u8]) -> Result<Vec<Lexeme>
     ensures found { IfOk result (λ ls. AreLexemes form text.now ls.items) }
     // What stands in the text under a lexeme is of its kind.
     ensures each { IfOk result (λ ls. All (IsIn form text.now) ls.items) }
+    ensures few { IfOk result (λ ls. vec_len ls ≤ length text.now) }
     // A refusal is at the first bad byte.
     ensures fault { IfErr result (IsFaultOf form text.now) }
     // A text that has lexemes is read as these, and it has no others.

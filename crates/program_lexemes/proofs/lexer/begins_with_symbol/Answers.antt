@@ -1,4 +1,4 @@
-use Rattle.std.proofs.Common.{◌≡◌, ◌∙◌}
+use Rattle.std.proofs.Common.{◌∙◌}
 use Rattle.program_lexemes.proofs.Spelled.{symbol_told, front_told}
 use Rattle.program_lexemes.proofs.lexer.begins_with_symbol.Goals as goal
 

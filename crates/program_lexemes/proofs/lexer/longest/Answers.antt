@@ -1,7 +1,6 @@
-use Rattle.std.proofs.Common.{rules, ◌≡◌, ◌<◌, ◌∷◌, ap, sym, ◌∙◌, arith, add-one, refl, take, suc, min, true, false}
+use Rattle.std.proofs.Common.{rules, ap, sym, ◌∙◌, arith, add-one, refl, take, suc}
 use Rattle.program_lexemes.specs.declared.lexer.LexKind.TheVariants as kind
 use Rattle.program_lexemes.specs.Forms.{is_digit, is_word_byte, is_minus, word_kind, are_digits, are_few_digits}
-use Rattle.program_lexemes.specs.Prefixes.{prefix_len}
 use Rattle.program_lexemes.proofs.PrefixLengths.{prefix_front, digits_front, no_digits_front, few_digits_front, no_few_digits_front}
 use Rattle.program_lexemes.proofs.LongestLexeme.{by_letter, by_digit, by_minus, by_dollar, by_symbol, longest_at, none_at, symbol_at, no_symbol_at, no_minus}
 use Rattle.program_lexemes.proofs.lexer.longest.Goals as goal

@@ -1,4 +1,4 @@
-use Rattle.std.proofs.Common.{ℕ, ◌≡◌, ◌≤◌, ◌+◌, length, drop, arith, sym, ◌∙◌, subst, List, length-drop}
+use Rattle.std.proofs.Common.{ℕ, ◌+◌, drop, arith, sym, ◌∙◌, subst, List, length-drop}
 use Rattle.program_lexemes.specs.declared.lexer.Lexeme.{Lexeme}
 use Rattle.program_lexemes.specs.Lexemes.{Reads, IsLongest}
 use Rattle.program_lexemes.proofs.Reading.{white_read, lexeme_read, whole_rest}

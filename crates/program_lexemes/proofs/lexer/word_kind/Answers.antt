@@ -1,4 +1,4 @@
-use Rattle.std.proofs.Common.{◌≡◌, sym, ap, ◌∙◌, true, false}
+use Rattle.std.proofs.Common.{sym, ap, ◌∙◌}
 use Rattle.std.specs.Prelude.{if◌then◌else◌}
 use Rattle.program_lexemes.specs.declared.lexer.LexKind.TheVariants as kind
 use Rattle.program_lexemes.proofs.Spelled.{keyword_told}

@@ -1,5 +1,4 @@
-use Rattle.std.proofs.Common.{◌≡◌, ◌+◌, ◌*◌, ◌-◌, ◌<◌, ◌^◌, take, length, get_or, ap, sym, ◌∙◌, arith}
-use Rattle.std.specs.Str.Parse.{digits_value}
+use Rattle.std.proofs.Common.{◌+◌, arith}
 use Rattle.program_lexemes.proofs.Decimals.{digits_all, value_short, value_more}
 use Rattle.program_lexemes.proofs.readers.digits_value.Goals as goal
 
