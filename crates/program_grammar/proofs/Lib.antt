@@ -9,3 +9,4 @@ pub mod Meanings
 pub mod Beginnings
 pub mod Fronts
 pub mod Places
+pub mod Unambiguous

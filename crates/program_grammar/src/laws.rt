@@ -15,6 +15,11 @@ pub fn beginnings_law()
         Begins language AProgram terms ↔ BeginsProgram language terms }
 {}
 
+/// The grammar is unambiguous: a list of terms is at most one program.
+pub fn unambiguity_law()
+    ensures { (p q : Program) → program p [] ≡ program q [] → p ≡ q }
+{}
+
 /// The events of a program take its terms, in order and each once. So its steps, each with the term of its place put
 /// back, are its events, and a pass over the steps that looks its terms up is a pass over the events.
 pub fn places_law()

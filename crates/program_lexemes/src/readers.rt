@@ -1,8 +1,8 @@
 // What a lexeme says: its bytes, whether it is too long, and the value of a number.
-ghost use Rattle.std.specs.Prelude.{◌≡◌, ◌≤◌, length, true, false};
-ghost use Rattle.program_lexemes.specs.Lexemes.{bytes_of};
-ghost use Rattle.program_lexemes.specs.Forms.{are_digits};
+ghost use Rattle.std.specs.Prelude.{◌≡◌, ◌≤◌, ◌<◌, ◌^◌, length, nat_abs, true, false};
 ghost use Rattle.std.specs.Str.Parse.{digits_value};
+ghost use Rattle.program_lexemes.specs.Forms.{are_digits};
+ghost use Rattle.program_lexemes.specs.Lexemes.{bytes_of};
 ghost use Rattle.program_lexemes.specs.Numbers.{digits_of, is_long, is_number, number_of};
 ghost use Rattle.program_lexemes.specs.declared.lexer.LexKind.TheVariants.{Number};
 
@@ -49,7 +49,8 @@ pub fn is_long(kind: LexKind, bytes: &[u8]) -> bool
 fn digits_value(digits: &[u8]) -> u32
     requires all { are_digits digits.now ≡ true }
     requires few { length digits.now ≤ 9 }
-    ensures { result ≡ digits_value 10 digits.now }
+    ensures value { result ≡ digits_value 10 digits.now }
+    ensures bound { result < 10 ^ 9 }
 {
     let mut value = 0;
     for digit in digits {
@@ -62,7 +63,8 @@ fn digits_value(digits: &[u8]) -> u32
 pub fn number_value(bytes: &[u8]) -> i64
     requires number { is_number bytes.now ≡ true }
     requires short { is_long Number bytes.now ≡ false }
-    ensures { result ≡ number_of bytes.now }
+    ensures value { result ≡ number_of bytes.now }
+    ensures bound { nat_abs result < 10 ^ 9 }
 {
     let value = i64::from(digits_value(digits_of(bytes)));
     if bytes.first() == Some(&b'-') {

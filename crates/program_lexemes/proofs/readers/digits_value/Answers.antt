@@ -21,3 +21,8 @@ loop-digit-preserved c =
     let all = digits_all c.args.digits.now c.requires.all in
     let more = value_more c.args.digits.now c.loop-digit.digit-index all c.loop-digit-test.true in
     omega (arith, more, c.loop-digit.invariant, c.from.ensures)
+
+pub returns-clause-bound : goal.returns-clause-bound
+returns-clause-bound c =
+    let short = value_short c.args.digits.now c.loop-digit.digit-index (digits_all c.args.digits.now c.requires.all) c.requires.few in
+    omega (arith, short, c.loop-digit.invariant)
