@@ -1,5 +1,5 @@
 -- The order of values: the test agrees with what they entail, it is an order, and the join is the least upper bound in it.
-use Rattle.std.proofs.Common.{◌≡◌, Bool, true, false, cond, ◌&&◌, ◌||◌, not, ℤ, refl, sym, ap, ◌∙◌, subst, arith}
+use Rattle.std.proofs.Common.{◌≡◌, Bool, true, false, cond, ◌&&◌, ◌||◌, ℤ, refl, sym, ap, ◌∙◌, arith}
 use Rattle.std.specs.Prelude.{◌↔◌, ◌≤ℤ◌, IsTrue, int_le, int_lt}
 use Rattle.std.specs.Int.{int_max, int_min}
 use Rattle.std.specs.Int.Signed.{≤ℤ_refl}
@@ -8,14 +8,13 @@ use Rattle.token_system.specs.Domain.{is_cell}
 use Rattle.token_system.specs.declared.cell.Kind.{Kind}
 use Rattle.token_system.specs.declared.cell.Kind.TheVariants as kinds
 use Rattle.token_system.specs.declared.cell.Cell.{Cell}
-use Rattle.token_system.specs.declared.cell.Token.{Token}
 use Rattle.token_system.specs.declared.cell.Token.TheVariants.{On, Off, AtLeast, AtMost, Clash}
 use Rattle.token_system.specs.declared.cell.Value.{Value}
 use Rattle.token_system.specs.declared.cell.Value.TheVariants as values
 use Rattle.token_system.specs.Values.{IsProper, IsValueOf, WithinDomain}
 use Rattle.token_system.specs.Joins.{IsBelow, implies, value_leq, value_join, signal_of, number_of}
 use Rattle.token_system.proofs.Alike.{Covers, true_false, within_bound, le_itself, same_tokens}
-use Rattle.token_system.proofs.Adding.{signal_covers, number_covers, clash_covers, value_eq-true}
+use Rattle.token_system.proofs.Adding.{signal_covers, number_covers, clash_covers}
 
 implied : (a b : Bool) → IsTrue (implies a b) → IsTrue a → IsTrue b
 implied true b h p = h

@@ -108,7 +108,7 @@ module _ (lo hi : ℤ) (l : IsTrue (is_cell kinds.Number lo hi)) (ts us : List T
   numbers_join : (a b c d : ℤ) → Bounds number ts a b → Bounds number us c d → SumsUp number kinds.Number (ts ++ us) (number_of (int_max a c) (int_min b d))
   numbers_join a b c d i j =
       number_made (int_max a c) (int_min b d) (greatest_lower number ts us a c i.lowest j.lowest i.low j.low) (least_upper number ts us b d i.highest j.highest i.high j.high)
-          (told_in_either number ts us Clash ⊥ i.calm j.calm) _ refl
+      (told_in_either number ts us Clash ⊥ i.calm j.calm) _ refl
 
 both_true : (x y : Bool) → (x && y) ≡ true → IsTrue x × IsTrue y
 both_true true true e = (refl, refl)
@@ -127,7 +127,7 @@ module _ (lo hi : ℤ) (l : IsTrue (is_cell kinds.Signal lo hi)) (ts us : List T
   signals_join : (a b c d : Bool) → Signs ts a b → Signs us c d → SumsUp signal kinds.Signal (ts ++ us) (signal_of (a || c) (b || d))
   signals_join a b c d i j =
       signal_made (a || c) (b || d) (either_told signal ts us On a c i.on_told j.on_told) (told_either signal ts us On a c i.told_on j.told_on)
-          (either_told signal ts us Off b d i.off_told j.off_told) (told_either signal ts us Off b d i.told_off j.told_off) (told_in_either signal ts us Clash ⊥ i.calm j.calm) _ refl
+      (either_told signal ts us Off b d i.off_told j.off_told) (told_either signal ts us Off b d i.told_off j.told_off) (told_in_either signal ts us Clash ⊥ i.calm j.calm) _ refl
 
 module _ (lo hi : ℤ) (ts us : List Token) where
   join-sums_up : (k : Kind) (l : IsTrue (is_cell k lo hi)) (v w : Value) → SumsUp (cell_of k lo hi l) k ts v → SumsUp (cell_of k lo hi l) k us w → SumsUp (cell_of k lo hi l) k (ts ++ us) (value_join v w)
@@ -146,9 +146,9 @@ module _ (lo hi : ℤ) (ts us : List Token) where
 pub join-stands : (c : Cell) (ts us : List Token) (v w : Value) → IsValueOf c v → IsValueOf c w → StandsFor c v ts → StandsFor c w us → StandsFor c (value_join v w) (ts ++ us)
 join-stands c ts us v w vv vw sv sw =
     sum-stands c.lo c.hi c.kind c.lawful (ts ++ us) (value_join v w)
-        (join-sums_up c.lo c.hi ts us c.kind c.lawful v w
-            (stands-sums_up c.lo c.hi c.kind c.lawful ts v vv.domain vv.proper sv)
-            (stands-sums_up c.lo c.hi c.kind c.lawful us w vw.domain vw.proper sw))
+    (join-sums_up c.lo c.hi ts us c.kind c.lawful v w
+    (stands-sums_up c.lo c.hi c.kind c.lawful ts v vv.domain vv.proper sv)
+    (stands-sums_up c.lo c.hi c.kind c.lawful us w vw.domain vw.proper sw))
 
 -- the same of a result that is known to be that join
 pub result_stands : (v w x : Value) → x ≡ value_join v w → (c : Cell) (ts us : List Token) → IsValueOf c v → IsValueOf c w → StandsFor c v ts → StandsFor c w us → StandsFor c x (ts ++ us)

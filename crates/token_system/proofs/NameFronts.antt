@@ -1,15 +1,15 @@
 -- The name at the front of a token's text ends where the first byte stands that no name has.
-use Rattle.std.proofs.Common.{◌≡◌, ℕ, zero, suc, ◌+◌, ◌<◌, ◌≤◌, Bool, true, false, ◌&&◌, ◌||◌, List, [], ◌∷◌, ◌++◌, length, take, drop, get_or, Option, refl, sym, ap, ◌∙◌, subst, arith}
-use Rattle.std.specs.Prelude.{IsTrue, codes, nat_le}
+use Rattle.std.proofs.Common.{◌≡◌, ℕ, zero, suc, Bool, true, false, ◌&&◌, List, [], ◌∷◌, ◌++◌, length, take, drop, Option, refl, sym, ap, ◌∙◌, subst, arith}
+use Rattle.std.specs.Prelude.{IsTrue, nat_le}
 use Rattle.std.specs.List.{list_all}
-use Rattle.std.specs.Char.{is_ascii_alphabetic, is_ascii_alphanumeric}
+use Rattle.std.specs.Char.{is_ascii_alphabetic}
 use Rattle.std.proofs.lemmas.Bool.Decides.{nat_tests}
 use Rattle.token_system.specs.declared.cell.Token.{Token}
 use Rattle.token_system.specs.declared.reading.Written.{Written}
 use Rattle.token_system.specs.Texts.{is_name, is_name_byte, IsNameFront, IsNamed, IsTail, alone, at_least, at_most, exactly, IsTokenText, off, clash, plain}
 use Rattle.token_system.proofs.Alike.{true_false}
 
-first_true : (a b : Bool) → (a && b) ≡ true → a ≡ true
+pub first_true : (a b : Bool) → (a && b) ≡ true → a ≡ true
 first_true true b h = refl
 first_true false b h = h
 
@@ -18,11 +18,11 @@ second_true true b h = h
 second_true false b h = absurd (true_false (sym h))
 
 -- no byte that a name has stands first
-abbrev StartsOutside : List ℕ → Type 0
+abbrev pub StartsOutside : List ℕ → Type 0
 StartsOutside [] = Unit {0}
 StartsOutside (b ∷ bs) = is_name_byte b ≡ false
 
-tail-outside : (rest : List ℕ) (first : Token) (second : Option Token) → IsTail rest first second → StartsOutside rest
+pub tail-outside : (rest : List ℕ) (first : Token) (second : Option Token) → IsTail rest first second → StartsOutside rest
 tail-outside rest first second (alone e f s) = subst StartsOutside (sym e) tt
 tail-outside rest first second (at_least number k e n f s) = subst StartsOutside (sym e) refl
 tail-outside rest first second (at_most number k e n f s) = subst StartsOutside (sym e) refl
@@ -32,7 +32,7 @@ letter_in_name : (b : ℕ) → is_ascii_alphabetic b ≡ true → is_name_byte b
 letter_in_name b h = grind (arith, nat_tests)
 
 -- a name has only bytes that names have
-name_bytes : (name : List ℕ) → IsTrue (is_name name) → list_all is_name_byte name ≡ true
+pub name_bytes : (name : List ℕ) → IsTrue (is_name name) → list_all is_name_byte name ≡ true
 name_bytes [] h = absurd (true_false (sym h))
 name_bytes (b ∷ bs) h =
     let both = first_true (is_ascii_alphabetic b && list_all is_name_byte bs) (nat_le (length bs) 31) h in
@@ -49,7 +49,7 @@ front-length (b ∷ name) rest (suc n) all out h = ap suc (front-length name res
   stops = λ lt. h.stops (omega arith);
 }))
 
-take-own : (xs ys : List ℕ) → take (length xs) (xs ++ ys) ≡ xs
+pub take-own : (xs ys : List ℕ) → take (length xs) (xs ++ ys) ≡ xs
 take-own [] ys = refl
 take-own (x ∷ xs) ys = ap (λ (zs : List ℕ). x ∷ zs) (take-own xs ys)
 

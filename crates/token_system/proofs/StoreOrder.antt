@@ -1,16 +1,16 @@
 -- The order of stores agrees with what they entail, and their join stands for the tokens of both, where names have cells.
 use Rattle.std.proofs.Common.{◌≡◌, List, ◌++◌, Bool, Option, Some, None, IfSome, refl, sym, ap, ◌∙◌, subst}
 use Rattle.std.specs.Prelude.{◌↔◌, IsTrue, unwrap_or}
-use Rattle.std.specs.FinMap.{get}
+use Rattle.std.specs.FinMap.{get, empty, get-empty}
+use Rattle.token_system.specs.Names.{name_cmp}
 use Rattle.token_system.specs.declared.name.CellName.{CellName}
 use Rattle.token_system.specs.declared.cell.Cell.{Cell}
 use Rattle.token_system.specs.declared.cell.Token.{Token}
 use Rattle.token_system.specs.declared.cell.Value.{Value}
-use Rattle.token_system.specs.Tokens.{Fits}
 use Rattle.token_system.specs.Values.{bottom_of, value_entails, IsProper, IsValueOf, StandsFor}
 use Rattle.token_system.specs.Joins.{IsBelow, value_join, value_leq}
 use Rattle.token_system.specs.Stores.{Valuation, value_at, store_entails, IsKeptFor}
-use Rattle.token_system.specs.StoreJoins.{KeepsAbove, IsStoreBelow, AreKeptFor, EntailsAllOf, kept_by_both}
+use Rattle.token_system.specs.StoreJoins.{CanJoin, KeepsAbove, IsStoreBelow, AreKeptFor, EntailsAllOf, kept_by_both}
 use Rattle.token_system.proofs.Adding.{bottom_covered, bottom_within}
 use Rattle.token_system.proofs.Below.{leq-is_below, below-antisymm, leq-refl, leq-antisymm, join-least, join-above_first, join-above_second}
 use Rattle.token_system.proofs.Both.{join-stands}
@@ -49,16 +49,21 @@ module _ (cell_of : CellName → Cell) (r s : Valuation) (hr : AreKeptFor cell_o
           let above = below n v e in
           let held : value_at s n (cell_of n) ≡ above.0 = ap (λ o. unwrap_or o (bottom_of (cell_of n))) above.1 in
           subst (λ (w : Value). IsTrue (value_entails w t)) (sym held)
-              ((leq-below (cell_of n) v above.0 (hr n v e).value (hs n above.0 above.1).value).0 above.2 t f h)
+          ((leq-below (cell_of n) v above.0 (hr n v e).value (hs n above.0 above.1).value).0 above.2 t f h)
 
   entails-below : EntailsAllOf cell_of r s → IsStoreBelow r s
   entails-below all n v e = go (get s n) refl
     where
       of_v : IsBelow (cell_of n) v (value_at s n (cell_of n))
       of_v t f h = all n t f (subst (λ (o : Option Value). IsTrue (value_entails (unwrap_or o (bottom_of (cell_of n))) t)) (sym e) h)
+
       go : (o : Option Value) → get s n ≡ o → KeepsAbove s n v
-      go (Some w) e' = (w, e', (leq-below (cell_of n) v w (hr n v e).value (hs n w e').value).1
-          (subst (λ (o : Option Value). IsBelow (cell_of n) v (unwrap_or o (bottom_of (cell_of n)))) e' of_v))
+      go (Some w) e' = (
+        w,
+        e',
+        (leq-below (cell_of n) v w (hr n v e).value (hs n w e').value).1
+            (subst (λ (o : Option Value). IsBelow (cell_of n) v (unwrap_or o (bottom_of (cell_of n)))) e' of_v),
+      )
       go None e' = absurd ((hr n v e).not_bottom (below-antisymm (cell_of n) v (bottom_of (cell_of n)) (hr n v e).value (bottom_value (cell_of n))
           (subst (λ (o : Option Value). IsBelow (cell_of n) v (unwrap_or o (bottom_of (cell_of n)))) e' of_v)
           (bottom_below (cell_of n) v (hr n v e).value)))
@@ -84,5 +89,9 @@ pub both-stand : (r s both : Valuation) → ((n : CellName) → get both n ≡ k
     → IfSome (get r n) (IsKeptFor c) → IfSome (get s n) (IsKeptFor c) → StandsFor c (value_at r n c) ts → StandsFor c (value_at s n c) us → StandsFor c (value_at both n c) (ts ++ us)
 both-stand r s both by_name c n ts us kr ks sr ss =
     subst (λ (v : Value). StandsFor c v (ts ++ us))
-        (sym (ap (λ o. unwrap_or o (bottom_of c)) (by_name n) ∙ both_values c (get r n) (get s n) kr ks))
-        (join-stands c ts us (value_at r n c) (value_at s n c) (value_kept c (get r n) kr) (value_kept c (get s n) ks) sr ss)
+    (sym (ap (λ o. unwrap_or o (bottom_of c)) (by_name n) ∙ both_values c (get r n) (get s n) kr ks))
+    (join-stands c ts us (value_at r n c) (value_at s n c) (value_kept c (get r n) kr) (value_kept c (get s n) ks) sr ss)
+
+-- an empty store can be compared and joined with each
+pub empty_can_join : (r s : Valuation) → r ≡ empty → CanJoin r s
+empty_can_join r s e n v w p q = absurd (let none : None ≡ Some v = sym (ap (λ m. get m n) e ∙ get-empty name_cmp n) ∙ p in cc)

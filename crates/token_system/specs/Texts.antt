@@ -59,6 +59,14 @@ pub record IsNamed (bytes : List ℕ) (w : Written) : Type 0 where
 abbrev pub marked_name : List ℕ → Token → Written
 marked_name name t = record { name_start = 1; name_end = length name + 1; first = t; second = None }
 
+-- what the text of a token of the named cell means: that token alone
+abbrev pub written_of : List ℕ → Token → Written
+written_of name On = record { name_start = 0; name_end = length name; first = On; second = None }
+written_of name Off = marked_name name Off
+written_of name Clash = marked_name name Clash
+written_of name (AtLeast k) = record { name_start = 0; name_end = length name; first = AtLeast k; second = None }
+written_of name (AtMost k) = record { name_start = 0; name_end = length name; first = AtMost k; second = None }
+
 -- the bytes are the whole text of a token, whose name stands at these places and that means these tokens
 pub data IsTokenText (bytes : List ℕ) (w : Written) : Type 0 where
   off : (name : List ℕ) → bytes ≡ codes "!" ++ name → IsTrue (is_name name) → w ≡ marked_name name Off → IsTokenText bytes w

@@ -38,10 +38,15 @@ fn is_below(a: Value, b: Value) -> bool
 {
     match (a, b) {
         (_, Value::Clash) => true,
-        (Value::Signal { on, off }, Value::Signal { on: b_on, off: b_off }) => {
-            (!on || b_on) && (!off || b_off)
-        }
-        (Value::Number { lo, hi }, Value::Number { lo: b_lo, hi: b_hi }) => lo <= b_lo && b_hi <= hi,
+        (
+            Value::Signal { on, off },
+            Value::Signal {
+                on: b_on,
+                off: b_off,
+            },
+        ) => { (!on || b_on) && (!off || b_off) }
+        (Value::Number { lo, hi }, Value::Number { lo: b_lo, hi: b_hi }) => lo <= b_lo
+            && b_hi <= hi,
         _ => false,
     }
 }
@@ -52,9 +57,13 @@ fn with_both(a: Value, b: Value) -> Value
     ensures proper { IsProper result }
 {
     match (a, b) {
-        (Value::Signal { on, off }, Value::Signal { on: b_on, off: b_off }) => {
-            signal(on || b_on, off || b_off)
-        }
+        (
+            Value::Signal { on, off },
+            Value::Signal {
+                on: b_on,
+                off: b_off,
+            },
+        ) => { signal(on || b_on, off || b_off) }
         (Value::Number { lo, hi }, Value::Number { lo: b_lo, hi: b_hi }) => {
             number(lo.max(b_lo), hi.min(b_hi))
         }

@@ -1,5 +1,6 @@
 //! Worked examples of what tokens entail, and of what a store keeps.
 ghost use Rattle.std.specs.Prelude.{IsTrue};
+ghost use Rattle.token_system.specs.StoreJoins.{CanMeet};
 ghost use Rattle.token_system.specs.Stores.{CanHold};
 ghost use Rattle.token_system.specs.Values.{IsProper, OfOneKind};
 
@@ -276,4 +277,208 @@ fn a_store_keeps_names_in_order_and_no_bottom(rt: HostRuntime) -> Result<(), Fai
         );
     }
     Ok(())
+}
+
+fn name_of<'a>(bytes: &'a [u8], read: &Written) -> &'a [u8] {
+    if read.name_start <= read.name_end && read.name_end <= bytes.len() {
+        &bytes[read.name_start..read.name_end]
+    } else {
+        b"?"
+    }
+}
+
+#[test]
+fn token_texts_read_as_their_tokens(rt: HostRuntime) {
+    let thirty_two = b"a2345678901234567890123456789_12";
+    for (text, name, first, second) in [
+        (b"s".as_slice(), b"s".as_slice(), Token::On, None),
+        (b"!s".as_slice(), b"s".as_slice(), Token::Off, None),
+        (b"#x".as_slice(), b"x".as_slice(), Token::Clash, None),
+        (b"x>=2".as_slice(), b"x".as_slice(), Token::AtLeast(2), None),
+        (b"x<=9".as_slice(), b"x".as_slice(), Token::AtMost(9), None),
+        (
+            b"x=5".as_slice(),
+            b"x".as_slice(),
+            Token::AtLeast(5),
+            Some(Token::AtMost(5)),
+        ),
+        (
+            b"Z_1>=-999999999".as_slice(),
+            b"Z_1".as_slice(),
+            Token::AtLeast(-999_999_999),
+            None,
+        ),
+        (
+            b"x<=999999999".as_slice(),
+            b"x".as_slice(),
+            Token::AtMost(999_999_999),
+            None,
+        ),
+        (
+            b"x<=000000007".as_slice(),
+            b"x".as_slice(),
+            Token::AtMost(7),
+            None,
+        ),
+        (
+            b"x>=-0".as_slice(),
+            b"x".as_slice(),
+            Token::AtLeast(0),
+            None,
+        ),
+        (
+            thirty_two.as_slice(),
+            thirty_two.as_slice(),
+            Token::On,
+            None,
+        ),
+    ] {
+        match read_token(text) {
+            Ok(read) => {
+                assert_eq!(rt; name_of(text, &read), name, "{text:?}");
+                assert_eq!(rt; read.first, first, "{text:?}");
+                assert_eq!(rt; read.second, second, "{text:?}");
+            }
+            Err(Bad) => assert!(rt; false, "{text:?} is refused"),
+        }
+    }
+}
+
+#[test]
+fn other_texts_are_refused(rt: HostRuntime) {
+    for text in [
+        b"".as_slice(),
+        b"!".as_slice(),
+        b"#".as_slice(),
+        b"1x".as_slice(),
+        b"_x".as_slice(),
+        b"!!s".as_slice(),
+        b"s ".as_slice(),
+        b"x>2".as_slice(),
+        b"x>=".as_slice(),
+        b"x>=-".as_slice(),
+        b"x>=+2".as_slice(),
+        b"x=>2".as_slice(),
+        b"x>=1000000000".as_slice(),
+        b"x>=2a".as_slice(),
+        b"!x>=2".as_slice(),
+        b"a2345678901234567890123456789_123".as_slice(),
+    ] {
+        assert_eq!(rt; read_token(text), Err(Bad), "{text:?}");
+    }
+}
+
+#[test]
+fn tokens_are_written_one_after_the_other(rt: HostRuntime) -> Result<(), Fail> {
+    let mut text = Vec::new(rt.alloc());
+    for (name, token) in [
+        (b"s".as_slice(), Token::On),
+        (b"s".as_slice(), Token::Off),
+        (b"x".as_slice(), Token::Clash),
+        (b"x".as_slice(), Token::AtLeast(-3)),
+        (b"x".as_slice(), Token::AtMost(0)),
+    ] {
+        token_text(name, token, &mut text)?;
+        text.push(b' ')?;
+    }
+    assert_eq!(rt; text.as_slice(), b"s !s #x x>=-3 x<=0 ".as_slice());
+    Ok(())
+}
+
+#[test]
+fn values_join_to_what_either_says(rt: HostRuntime) {
+    for (a, b, joined, below) in [
+        (
+            Value::Number { lo: 2, hi: 10 },
+            Value::Number { lo: 0, hi: 9 },
+            Value::Number { lo: 2, hi: 9 },
+            false,
+        ),
+        (
+            Value::Number { lo: 0, hi: 9 },
+            Value::Number { lo: 3, hi: 3 },
+            Value::Number { lo: 3, hi: 3 },
+            true,
+        ),
+        (
+            Value::Number { lo: 0, hi: 1 },
+            Value::Number { lo: 2, hi: 3 },
+            Value::Clash,
+            false,
+        ),
+        (
+            Value::Signal {
+                on: true,
+                off: false,
+            },
+            Value::Signal {
+                on: false,
+                off: true,
+            },
+            Value::Clash,
+            false,
+        ),
+        (
+            Value::Signal {
+                on: false,
+                off: false,
+            },
+            Value::Signal {
+                on: false,
+                off: true,
+            },
+            Value::Signal {
+                on: false,
+                off: true,
+            },
+            true,
+        ),
+        (
+            Value::Clash,
+            Value::Number { lo: 2, hi: 3 },
+            Value::Clash,
+            false,
+        ),
+    ] {
+        assert!(rt; meet(a, b));
+        assert_eq!(rt; join(a, b), joined, "{a:?} and {b:?}");
+        assert_eq!(rt; leq(a, b), below, "{a:?} and {b:?}");
+    }
+}
+
+#[test]
+fn an_empty_store_is_below_each_and_adds_nothing(rt: HostRuntime) -> Result<(), Fail> {
+    let mut store = Store::new(rt.alloc());
+    let name = CellName::Declared(3);
+    told(
+        &rt,
+        &mut store,
+        name.copy()?,
+        ZERO_TO_TEN,
+        [Token::AtLeast(4)].as_slice(),
+    )?;
+    let empty = Store::new(rt.alloc());
+    assert!(rt; empty.leq(&store));
+    let both = empty.joined(&store)?;
+    assert_eq!(rt; both.get(&name), Some(Value::Number { lo: 4, hi: 10 }));
+    assert_eq!(rt; both.len(), 1);
+    Ok(())
+}
+
+fn meet(a: Value, b: Value) -> bool
+    ensures { IsTrue result → CanMeet a b }
+{
+    match (a, b) {
+        (
+            Value::Signal { on, off },
+            Value::Signal {
+                on: b_on,
+                off: b_off,
+            },
+        ) => { !(on && off) && !(b_on && b_off) }
+        (Value::Number { lo, hi }, Value::Number { lo: b_lo, hi: b_hi }) => lo <= hi
+            && b_lo <= b_hi,
+        (Value::Clash, Value::Number { lo, hi }) => lo <= hi,
+        _ => false,
+    }
 }

@@ -12,8 +12,8 @@ ghost use Rattle.token_system.specs.declared.name.CellName.{CellName};
 use super::Store;
 use crate::Memory;
 use crate::cell::Value;
-use crate::name::CellName;
 use crate::lattice::{join, leq};
+use crate::name::CellName;
 
 impl Store {
     /// Whether the other store entails all that this one entails.
