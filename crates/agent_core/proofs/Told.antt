@@ -43,7 +43,7 @@ bottom_covered kinds.Number lo hi (values.Number a b) d (AtMost n) f h = grind (
 bottom_covered kinds.Signal lo hi (values.Number a b) d t f h = absurd d
 bottom_covered kinds.Number lo hi (values.Signal a b) d t f h = absurd d
 
-equal_names : (q n : CellName) → eq_by_cmp name_cmp q n ≡ true → q ≡ n
+pub equal_names : (q n : CellName) → eq_by_cmp name_cmp q n ≡ true → q ≡ n
 equal_names q n e = name_cmp-IsAntisymmetric q n (go (name_cmp q n) e)
   where
     go : (r : Ordering) → is_eq r ≡ true → r ≡ Equal
