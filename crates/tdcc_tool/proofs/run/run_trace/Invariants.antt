@@ -1,0 +1,18 @@
+use Rattle.std.proofs.Common.{◌≡◌, ◌≤◌, ◌-◌}
+use Rattle.std.specs.Prelude.{IfSome, IsNone}
+use Rattle.tdcc_base.specs.Waiting.{waiting, source_of, stop_of, LinesReady, name_of}
+use Rattle.tdcc_tool.proofs.RunSteps.{Progress}
+use Rattle.tdcc_tool.proofs.run.run_trace.Given as goal
+
+abbrev pub invariant-lines : goal.invariant-lines
+invariant-lines g l = record {
+  same : name_of l.lines ≡ name_of l.fn.lines;
+  ready : LinesReady g.S.Source.left l.lines;
+  going_on : IsNone (stop_of l.lines);
+  few : l.instant ≤ 65536;
+  later : g.S.Source.faults (source_of l.fn.lines) ≤ g.S.Source.faults (source_of l.lines);
+  so_far : IfSome (waiting g.S.Source.left l.fn.lines) (λ trace. Progress l.program trace (waiting g.S.Source.left l.lines) l.instant l.out.items);
+}
+
+abbrev pub decreases-lines : goal.decreases-lines
+decreases-lines g l = 65537 - l.instant

@@ -1,0 +1,20 @@
+use Rattle.std.proofs.Common.{[], refl, ◌∙◌, inl, inr, subst}
+use Rattle.tdcc_base.specs.Written.{AppendsPart}
+use Rattle.tdcc_base.proofs.Known.{Appends-nothing}
+use Rattle.tdcc_tool.specs.Messages.{usage_line}
+use Rattle.tdcc_tool.specs.Answers.{IsRunCommand}
+use Rattle.tdcc_tool.proofs.Texts.{IfSome-all, IfSome-at, true_and_false}
+use Rattle.tdcc_tool.proofs.OneAnswer.{one_answer}
+use Rattle.tdcc_tool.proofs.top.tdcc.Goals as goal
+
+pub returns-then-not-is_run-clause-answer : goal.returns-then-not-is_run-clause-answer
+returns-then-not-is_run-clause-answer g c _ =
+    let not_run : IsRunCommand c.args.words.now → ⊥ = λ h. true_and_false c.is_run.result (c.is_run.ensures.1 h) c.if-not-is_run.true in
+    IfSome-all (g.S.Source.left c.args.source.now) _ (λ bytes. ([], usage_line, inr (record { none = not_run; is = refl; nothing = refl; told = refl }), Appends-nothing _, c.tell.ensures))
+
+pub returns-in-Ok-clause-cut_out : goal.returns-in-Ok-clause-cut_out
+returns-in-Ok-clause-cut_out g c bytes given known taken s o e answer =
+    let is_run : IsRunCommand c.args.words.now = c.is_run.ensures.0 c.if-not-is_run.false in
+    let ours = IfSome-at (g.S.Source.left c.args.source.now) bytes _ known c.in-Ok.ensures.answer in
+    let same = one_answer c.args.words.now bytes c.in-Ok.answer.status s c.in-Ok.answer.out.items o _ e (inl (is_run, ours)) answer in
+    subst (AppendsPart (g.K.Sink.written c.args.out.now) (g.K.Sink.written c.write_all.new.sink)) (c.as_slice.ensures.value ∙ same.1) c.in-Err.ensures.part

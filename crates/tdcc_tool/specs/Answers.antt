@@ -1,0 +1,82 @@
+-- What the tool answers to its words and the bytes of its source: a status, the bytes for out and the bytes for err. This project's own.
+use Rattle.std.specs.Prelude.{◌≡◌, ◌⊎◌, ℕ, ◌<◌, ◌≤◌, List, [], ◌∷◌, ◌++◌, length, map, flat_map, take, slice_get, Some, codes, String, string_bytes}
+use Rattle.std.specs.declared.alloc.Global.{Global}
+use Rattle.tdcc_base.specs.declared.status.Status.{Status}
+use Rattle.tdcc_base.specs.declared.status.Status.TheVariants as statuses
+use Rattle.tdcc_base.specs.Lines.{lines_of}
+use Rattle.tdcc_base.specs.Texts.{text_of, trace_of}
+use Rattle.token_system.specs.Stores.{Valuation}
+use Rattle.agent_core.specs.Programs.{CoreProgram}
+use Rattle.agent_core.specs.Outputs.{IsRun}
+use Rattle.tdcc_tool.specs.Messages.{usage_line, program_line, trace_line}
+use Rattle.tdcc_tool.specs.FirstForm.{Reads}
+use Rattle.tdcc_tool.specs.Inputs.{GivesInput}
+use Rattle.tdcc_tool.specs.StoreLines.{store_line}
+
+-- the text is within its limit of bytes, and is this program's
+abbrev pub Accepts : List ℕ → CoreProgram → Type 0
+Accepts text p = (length text ≤ 65536) × Reads text p
+
+-- each of these lines is within its limit of bytes, and gives the input at its place
+abbrev pub GiveInputs : CoreProgram → List (List ℕ) → List Valuation → Type 0
+GiveInputs p [] [] = Unit {0}
+GiveInputs p (line ∷ lines) (i ∷ ins) = (length line ≤ 32768) × GivesInput p line i × GiveInputs p lines ins
+GiveInputs p [] (i ∷ ins) = ⊥
+GiveInputs p (line ∷ lines) [] = ⊥
+
+-- the line of instant n stops the run: it is too long, one too many, or gives no input
+abbrev pub Stops : CoreProgram → ℕ → List ℕ → Type 0
+Stops p n line = (32768 < length line) ⊎ ((n ≡ 65536) ⊎ ((i : Valuation) → GivesInput p line i → ⊥))
+
+-- how a run over these lines ends after n of them: at their end, or at a line that stops it
+abbrev pub Ends : CoreProgram → List (List ℕ) → ℕ → Status → List ℕ → Type 0
+Ends p lines n statuses.Ok err = (n ≡ length lines) × (err ≡ [])
+Ends p lines n statuses.Trace err = (line : List ℕ) × (slice_get lines n ≡ Some line) × Stops p n line × (err ≡ trace_line n)
+Ends p lines n _ err = ⊥
+
+-- the lines of some stores
+abbrev pub store_lines : CoreProgram → List Valuation → List ℕ
+store_lines p outs = flat_map (λ v. store_line p v ++ 10 ∷ []) outs
+
+-- The answer of a program to the lines of a trace: the store lines of the run on the inputs of the lines that do not stop it.
+pub record RunAnswer (p : CoreProgram) (lines : List (List ℕ)) (status : Status) (out err : List ℕ) : Type 0 where
+  pub ins : List Valuation
+  pub outs : List Valuation
+  pub few : length ins ≤ 65536
+  pub given : GiveInputs p (take (length ins) lines) ins
+  pub run : IsRun p ins outs
+  pub written : out ≡ store_lines p outs
+  pub ends : Ends p lines (length ins) status err
+
+-- the answer to a text that is no program's
+pub record Refusal (text : List ℕ) (status : Status) (out err : List ℕ) : Type 0 where
+  pub none : (p : CoreProgram) → Accepts text p → ⊥
+  pub is : status ≡ statuses.Program
+  pub nothing : out ≡ []
+  pub told : err ≡ program_line
+
+-- the answer of `run` to the bytes: a program text, and then the trace
+abbrev pub AnswersRun : List ℕ → Status → List ℕ → List ℕ → Type 0
+AnswersRun bytes status out err =
+    Refusal (text_of bytes) status out err
+    ⊎ ((p : CoreProgram) × Accepts (text_of bytes) p × RunAnswer p (lines_of (trace_of bytes)) status out err)
+
+-- the words of the command `run`
+abbrev pub IsRunCommand : List (String Global) → Type 0
+IsRunCommand words = map string_bytes words ≡ codes "run" ∷ []
+
+-- the answer to words that are none of the tool's
+pub record UsageAnswer (words : List (String Global)) (status : Status) (out err : List ℕ) : Type 0 where
+  pub none : IsRunCommand words → ⊥
+  pub is : status ≡ statuses.Usage
+  pub nothing : out ≡ []
+  pub told : err ≡ usage_line
+
+-- the answer to the words and the bytes
+abbrev pub Answers : List (String Global) → List ℕ → Status → List ℕ → List ℕ → Type 0
+Answers words bytes status out err = (IsRunCommand words × AnswersRun bytes status out err) ⊎ UsageAnswer words status out err
+
+-- the words and the bytes have at most one answer
+abbrev pub HaveOneAnswer : List (String Global) → List ℕ → Type 0
+HaveOneAnswer words bytes =
+    (s s' : Status) (o o' e e' : List ℕ) → Answers words bytes s o e → Answers words bytes s' o' e' → (s ≡ s') × (o ≡ o') × (e ≡ e')

@@ -1,0 +1,39 @@
+-- What out holds of the answer where a fault or want of memory cut the call short. This project's own.
+use Rattle.std.specs.Prelude.{◌≡◌, ◌≢◌, ◌⊎◌, ℕ, List, [], ◌∷◌, ◌++◌, Option, Some, None, All, String}
+use Rattle.std.specs.declared.alloc.Global.{Global}
+use Rattle.tdcc_base.specs.Written.{AppendsPart, AppendsFront}
+use Rattle.tdcc_base.specs.declared.status.Status.{Status}
+use Rattle.tdcc_base.specs.declared.status.Status.TheVariants as statuses
+use Rattle.tdcc_tool.specs.Answers.{Answers}
+use Rattle.tdcc_tool.specs.Messages.{usage_line, read_line, write_line, memory_line}
+
+-- no bytes, or bytes that end with a line feed
+abbrev pub EndsLine : List ℕ → Type 0
+EndsLine bytes = (bytes ≡ []) ⊎ ((front : List ℕ) × (bytes ≡ front ++ 10 ∷ []))
+
+-- these are the whole lines of the bytes that were given
+pub record WholeLines (given lines : List ℕ) : Type 0 where
+  pub part : List ℕ
+  pub parted : given ≡ lines ++ part
+  pub no_end : All (λ b. b ≢ 10) part
+  pub whole : EndsLine lines
+
+-- After a read fault out holds a front of the answer to the whole lines that the source gave.
+abbrev pub HoldsTaken : List (String Global) → List ℕ → Option (List ℕ) → Option (List ℕ) → Type 0
+HoldsTaken words given before now =
+    (lines : List ℕ) (s : Status) (o e : List ℕ) → WholeLines given lines → Answers words lines s o e → AppendsFront before now o
+
+-- What out holds of the answer to all bytes, of which the source gave these: after a write fault a front that is not the whole, after want of memory a front.
+abbrev pub CutsOut : Status → List (String Global) → List ℕ → List ℕ → Option (List ℕ) → Option (List ℕ) → Type 0
+CutsOut statuses.Read words bytes given before now = HoldsTaken words given before now
+CutsOut statuses.Write words bytes given before now = (s : Status) (o e : List ℕ) → Answers words bytes s o e → AppendsPart before now o
+CutsOut statuses.Memory words bytes given before now = (s : Status) (o e : List ℕ) → Answers words bytes s o e → AppendsFront before now o
+CutsOut _ words bytes given before now = Unit {0}
+
+-- the line that a status has by itself, whatever the bytes
+abbrev pub own_line : Status → Option (List ℕ)
+own_line statuses.Usage = Some usage_line
+own_line statuses.Read = Some read_line
+own_line statuses.Write = Some write_line
+own_line statuses.Memory = Some memory_line
+own_line _ = None

@@ -1,0 +1,24 @@
+-- The statuses that a call may end with.
+use Rattle.tdcc_base.specs.declared.status.Status.{Status}
+use Rattle.tdcc_base.specs.declared.status.Status.TheVariants as statuses
+
+-- neither a fault nor want of memory cut the call short
+abbrev pub IsSettled : Status → Type 0
+IsSettled statuses.Read = ⊥
+IsSettled statuses.Write = ⊥
+IsSettled statuses.Memory = ⊥
+IsSettled _ = Unit {0}
+
+-- how a run that was not cut short ends
+abbrev pub IsRunEnd : Status → Type 0
+IsRunEnd statuses.Ok = Unit {0}
+IsRunEnd statuses.Program = Unit {0}
+IsRunEnd statuses.Trace = Unit {0}
+IsRunEnd _ = ⊥
+
+-- what the tool may end with
+abbrev pub IsToolStatus : Status → Type 0
+IsToolStatus statuses.No = ⊥
+IsToolStatus statuses.Fuel = ⊥
+IsToolStatus statuses.Net = ⊥
+IsToolStatus _ = Unit {0}

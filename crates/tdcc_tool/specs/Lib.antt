@@ -1,0 +1,15 @@
+pub mod Messages
+pub mod Words
+pub mod FirstForm
+pub mod Drafts
+pub mod Drafted
+pub mod Signals
+pub mod Inputs
+pub mod StoreLines
+pub mod Plain
+pub mod Walks
+pub mod Answers
+pub mod Cuts
+pub mod Instants
+pub mod Ends
+pub mod Laws

@@ -1,0 +1,30 @@
+-- The one line on err that goes with each status but Ok. The texts are this project's own.
+use Rattle.std.specs.Prelude.{ℕ, List, [], ◌∷◌, ◌++◌, codes, decimal}
+
+-- the program's name before the text, and a line feed after it
+abbrev pub message : List ℕ → List ℕ
+message text = codes "tdcc: " ++ text ++ 10 ∷ []
+
+-- the words are none of the tool's
+abbrev pub usage_line : List ℕ
+usage_line = message (codes "usage")
+
+-- the program text is refused
+abbrev pub program_line : List ℕ
+program_line = message (codes "program: not built yet at lexeme 0")
+
+-- the line of instant n is refused
+abbrev pub trace_line : ℕ → List ℕ
+trace_line n = message (codes "trace: instant " ++ decimal n ++ codes ": bad token at offset 0")
+
+-- the source failed
+abbrev pub read_line : List ℕ
+read_line = message (codes "read fault")
+
+-- the sink failed
+abbrev pub write_line : List ℕ
+write_line = message (codes "write fault")
+
+-- memory ran out
+abbrev pub memory_line : List ℕ
+memory_line = message (codes "out of memory")

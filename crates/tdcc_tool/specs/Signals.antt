@@ -1,0 +1,8 @@
+-- Programs all of whose cells are signals.
+use Rattle.std.specs.Prelude.{◌≡◌, ℕ, slice_get, Some}
+use Rattle.token_system.specs.declared.cell.Kind.TheVariants.{Signal}
+use Rattle.agent_core.specs.declared.node.CellDecl.{CellDecl}
+use Rattle.agent_core.specs.Programs.{CoreProgram}
+
+abbrev pub HasSignalsOnly : CoreProgram → Type 0
+HasSignalsOnly p = (c : ℕ) (d : CellDecl) → slice_get p.cells c ≡ Some d → d.cell.kind ≡ Signal

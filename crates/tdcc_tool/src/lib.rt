@@ -1,0 +1,18 @@
+//! What the tool answers, and the call that does all that the program does.
+#![tactic(auto)]
+
+mod answer;
+mod draft;
+mod input;
+mod instant;
+mod laws;
+mod reading;
+mod run;
+mod store_line;
+#[cfg(test)]
+mod tests;
+mod top;
+mod words;
+
+pub use laws::{answer_law, output_law};
+pub use top::tdcc;

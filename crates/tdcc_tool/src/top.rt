@@ -1,0 +1,108 @@
+ghost use Rattle.std.specs.Prelude.{◌≡◌, ◌↔◌, ℕ, List, [], IfOk, IfSome, OnSome, IsTrue, IsErrOf, Some, string_bytes};
+ghost use Rattle.std.specs.Io.KnownBytes.{Appends, Consumes};
+ghost use Rattle.tdcc_base.specs.Causes.{Rose};
+ghost use Rattle.tdcc_base.specs.Written.{Tells};
+ghost use Rattle.tdcc_tool.specs.Answers.{Answers, AnswersRun, IsRunCommand};
+ghost use Rattle.tdcc_tool.specs.Cuts.{CutsOut, own_line};
+ghost use Rattle.tdcc_tool.specs.Ends.{IsSettled, IsRunEnd, IsToolStatus};
+
+use crate::answer::{Answer, Stop};
+use crate::run::run_lines;
+use std::alloc::Global;
+use std::thread::Threads;
+use tdcc_base::{Failed, Gate, Lines, Sink, Source, Status, write_all};
+
+/// Whether the words are those of the command `run`.
+fn is_run(words: &[String]) -> bool
+    ensures { IsTrue result ↔ IsRunCommand words.now }
+{
+    match words {
+        [word] => word.as_str() == "run",
+        _ => false,
+    }
+}
+
+/// Writes a line to err, as far as err takes it.
+fn tell<E: Sink>(err: &mut E, line: &[u8])
+    ensures { Tells (E.written err.old) (E.written err.new) (E.faults err.old) (E.faults err.new) line.now }
+{
+    let _ = write_all(err, line);
+}
+
+/// Reads all there is, and answers it.
+fn answer_run<S: Source>(alloc: Global, source: &mut S) -> Result<Answer, Stop>
+    ensures answer { IfOk result (λ a. IfSome (S.left source.old) (λ bytes. AnswersRun bytes a.status a.out.items (string_bytes a.err))) }
+    ensures ended { IfOk result (λ a. a.status ≡ Status.Ok → OnSome (S.left source.old) (S.left source.new ≡ Some [])) }
+    ensures read { IsErrOf result Stop.Read → Rose (S.faults source.old) (S.faults source.new) }
+    ensures run_end { IfOk result (λ a. IsRunEnd a.status) }
+{
+    let Ok(mut lines) = Lines::new(alloc, source) else {
+        return Err(Stop::Memory);
+    };
+    run_lines(alloc, &mut lines)
+}
+
+/// Does all that the program does: reads its words and its source, writes its answer to `out` and
+/// the line of a status other than `Ok` to `err`, and answers the status.
+///
+/// The words are the arguments behind the program's name. The whole source is read before anything is
+/// written to `out`. No thread is started and the gate is not passed yet. A fault of `err` changes no
+/// status.
+pub fn tdcc<R: Threads + Sync, S: Source, K: Sink, E: Sink, G: Gate>(
+    rt: &R,
+    alloc: Global,
+    words: &[String],
+    source: &mut S,
+    out: &mut K,
+    err: &mut E,
+    gate: &G,
+) -> Status
+    // The defined answer, where nothing cut the call short.
+    ensures answer { IsSettled result → IfSome (S.left source.old) (λ bytes. (o e : List ℕ) ×
+        Answers words.now bytes result o e
+        × Appends (K.written out.old) (K.written out.new) o
+        × Tells (E.written err.old) (E.written err.new) (E.faults err.old) (E.faults err.new) e) }
+
+    // What a fault or want of memory leaves.
+    ensures cut_out { (bytes given : List ℕ) → S.left source.old ≡ Some bytes → Consumes (S.left source.old) (S.left source.new) given →
+        CutsOut result words.now bytes given (K.written out.old) (K.written out.new) }
+    ensures own_line { IfSome (own_line result) (λ line. Tells (E.written err.old) (E.written err.new) (E.faults err.old) (E.faults err.new) line) }
+    ensures read { result ≡ Status.Read → Rose (S.faults source.old) (S.faults source.new) }
+    ensures write { result ≡ Status.Write → Rose (K.faults out.old) (K.faults out.new) }
+
+    // Words that are none of the tool's.
+    ensures usage { (IsRunCommand words.now → ⊥) ↔ (result ≡ Status.Usage) }
+    ensures usage_source { result ≡ Status.Usage → source.new ≡ source.old }
+    ensures usage_out { result ≡ Status.Usage → out.new ≡ out.old }
+
+    // What was read, and which statuses there are.
+    ensures ended { result ≡ Status.Ok → OnSome (S.left source.old) (S.left source.new ≡ Some []) }
+    ensures statuses { IsToolStatus result }
+{
+    let _ = rt;
+    let _ = gate;
+    if !is_run(words) {
+        tell(err, b"tdcc: usage\n");
+        return Status::Usage;
+    }
+    match answer_run(alloc, source) {
+        Ok(answer) => match write_all(out, answer.out.as_slice()) {
+            Ok(()) => {
+                tell(err, answer.err.as_bytes());
+                answer.status
+            }
+            Err(Failed) => {
+                tell(err, b"tdcc: write fault\n");
+                Status::Write
+            }
+        },
+        Err(Stop::Read) => {
+            tell(err, b"tdcc: read fault\n");
+            Status::Read
+        }
+        Err(Stop::Memory) => {
+            tell(err, b"tdcc: out of memory\n");
+            Status::Memory
+        }
+    }
+}
