@@ -1,23 +1,22 @@
 -- Keywords and symbols, told by their bytes.
-use Rattle.std.proofs.Common.{◌≡◌, ℕ, ◌<◌, ◌≤◌, List, [], ◌∷◌, length, take, refl, ap, sym, ◌∙◌, arith, Option, Some, None, Bool, true, false, inl, inr, subst, bytes_eq}
-use Rattle.std.specs.Prelude.{MatchBool, ◌⊎◌, IfSome, IfNone, is_some}
-use Rattle.std.specs.List.{list_any}
-use Rattle.std.proofs.lemmas.Bool.{or_cases}
+use Rattle.std.proofs.Common.{◌≡◌, ℕ, ◌<◌, ◌≤◌, List, [], ◌∷◌, length, take, refl, ap, sym, ◌∙◌, arith, Option, Some, None, Bool, true, false, subst, bytes_eq}
+use Rattle.std.specs.Prelude.{MatchBool, IfSome, IfNone, is_some, if◌then◌else◌}
+use Rattle.std.specs.List.{find}
 use Rattle.std.proofs.lemmas.Slice.Eq.{bytes_eq-Decides}
 use Rattle.program_lexemes.specs.declared.keywords.Keyword.{Keyword}
 use Rattle.program_lexemes.specs.declared.keywords.Keyword.TheVariants as keyword
 use Rattle.program_lexemes.specs.declared.symbols.Symbol.{Symbol}
 use Rattle.program_lexemes.specs.declared.symbols.Symbol.TheVariants as symbol
-use Rattle.program_lexemes.specs.Spellings.{keyword_bytes, symbol_bytes, keywords, symbols, is_keyword, is_symbol}
+use Rattle.program_lexemes.specs.Spellings.{keyword_bytes, symbol_bytes, keywords, symbols, keyword_named, symbol_named, is_keyword, is_symbol}
 
--- what is among some spelled bytes is spelled
-spelled : {K : Type 0} (f : K → List ℕ) (bs : List ℕ) (ks : List K) → list_any (λ k. bytes_eq bs (f k)) ks ≡ true → (k : K) × (bs ≡ f k)
+-- what is found among some spelled bytes is spelled so
+spelled : {K : Type 0} (f : K → List ℕ) (bs : List ℕ) (ks : List K) → is_some (find (λ k. bytes_eq bs (f k)) ks) ≡ true → (k : K) × (bs ≡ f k)
 spelled f bs [] e = cc
-spelled {K = K} f bs (k ∷ ks) e = go (or_cases (bytes_eq bs (f k)) (list_any (λ k. bytes_eq bs (f k)) ks) e) (spelled f bs ks)
+spelled {K = K} f bs (k ∷ ks) e = go (bytes_eq bs (f k)) refl e (spelled f bs ks)
   where
-    go : (bytes_eq bs (f k) ≡ true) ⊎ (list_any (λ k. bytes_eq bs (f k)) ks ≡ true) → (list_any (λ k. bytes_eq bs (f k)) ks ≡ true → (k : K) × (bs ≡ f k)) → (k : K) × (bs ≡ f k)
-    go (inl h) rest = (k, (bytes_eq-Decides bs (f k)).0 h)
-    go (inr h) rest = rest h
+    go : (t : Bool) → bytes_eq bs (f k) ≡ t → is_some (if t then Some k else find (λ k. bytes_eq bs (f k)) ks) ≡ true → (is_some (find (λ k. bytes_eq bs (f k)) ks) ≡ true → (k : K) × (bs ≡ f k)) → (k : K) × (bs ≡ f k)
+    go true h e rest = (k, (bytes_eq-Decides bs (f k)).0 h)
+    go false h e rest = rest e
 
 pub keyword_spelled : (bs : List ℕ) → is_keyword bs ≡ true → (k : Keyword) × (bs ≡ keyword_bytes k)
 keyword_spelled bs e = spelled keyword_bytes bs keywords e
@@ -25,55 +24,57 @@ keyword_spelled bs e = spelled keyword_bytes bs keywords e
 pub symbol_spelled : (bs : List ℕ) → is_symbol bs ≡ true → (s : Symbol) × (bs ≡ symbol_bytes s)
 symbol_spelled bs e = spelled symbol_bytes bs symbols e
 
-pub keyword_is : (k : Keyword) → is_keyword (keyword_bytes k) ≡ true
-keyword_is keyword.Signal = refl
-keyword_is keyword.Int = refl
-keyword_is keyword.Set = refl
-keyword_is keyword.In = refl
-keyword_is keyword.Skip = refl
-keyword_is keyword.If = refl
-keyword_is keyword.Then = refl
-keyword_is keyword.Else = refl
-keyword_is keyword.New = refl
-keyword_is keyword.Hence = refl
-keyword_is keyword.Next = refl
-keyword_is keyword.Always = refl
-keyword_is keyword.When = refl
-keyword_is keyword.Do = refl
-keyword_is keyword.Watching = refl
-keyword_is keyword.Time = refl
-keyword_is keyword.On = refl
+-- the spelling of a keyword is that of no other
+pub named-keyword_bytes : (k : Keyword) → keyword_named (keyword_bytes k) ≡ Some k
+named-keyword_bytes keyword.Signal = refl
+named-keyword_bytes keyword.Int = refl
+named-keyword_bytes keyword.Set = refl
+named-keyword_bytes keyword.In = refl
+named-keyword_bytes keyword.Skip = refl
+named-keyword_bytes keyword.If = refl
+named-keyword_bytes keyword.Then = refl
+named-keyword_bytes keyword.Else = refl
+named-keyword_bytes keyword.New = refl
+named-keyword_bytes keyword.Hence = refl
+named-keyword_bytes keyword.Next = refl
+named-keyword_bytes keyword.Always = refl
+named-keyword_bytes keyword.When = refl
+named-keyword_bytes keyword.Do = refl
+named-keyword_bytes keyword.Watching = refl
+named-keyword_bytes keyword.Time = refl
+named-keyword_bytes keyword.On = refl
 
-pub symbol_is : (s : Symbol) → is_symbol (symbol_bytes s) ≡ true
-symbol_is symbol.Semicolon = refl
-symbol_is symbol.Comma = refl
-symbol_is symbol.Range = refl
-symbol_is symbol.Ampersand = refl
-symbol_is symbol.Bars = refl
-symbol_is symbol.OpenBrace = refl
-symbol_is symbol.CloseBrace = refl
-symbol_is symbol.Bang = refl
-symbol_is symbol.Hash = refl
-symbol_is symbol.GreaterEqual = refl
-symbol_is symbol.LessEqual = refl
-symbol_is symbol.Equal = refl
-symbol_is symbol.Colon = refl
+pub named-symbol_bytes : (s : Symbol) → symbol_named (symbol_bytes s) ≡ Some s
+named-symbol_bytes symbol.Semicolon = refl
+named-symbol_bytes symbol.Comma = refl
+named-symbol_bytes symbol.Range = refl
+named-symbol_bytes symbol.Ampersand = refl
+named-symbol_bytes symbol.Bars = refl
+named-symbol_bytes symbol.OpenBrace = refl
+named-symbol_bytes symbol.CloseBrace = refl
+named-symbol_bytes symbol.Bang = refl
+named-symbol_bytes symbol.Hash = refl
+named-symbol_bytes symbol.GreaterEqual = refl
+named-symbol_bytes symbol.LessEqual = refl
+named-symbol_bytes symbol.Equal = refl
+named-symbol_bytes symbol.Colon = refl
 
--- a test that holds of what is spelled and of nothing else is the one that the look-up makes
-told : {K : Type 0} (f : K → List ℕ) (test : List ℕ → Bool) (bs : List ℕ) (o : Option K) → ((k : K) → test (f k) ≡ true) → (test bs ≡ true → (k : K) × (bs ≡ f k))
-    → IfSome o (λ k. bs ≡ f k) → IfNone o ((k : K) → bs ≡ f k → ⊥) → is_some o ≡ test bs
-told f test bs (Some k) is back found none = sym (ap test found ∙ is k)
-told {K = K} f test bs None is back found none = go (test bs) back
+-- what is found by its spelling, and nothing where there is no such spelling, is what is named
+told : {K : Type 0} (f : K → List ℕ) (named : List ℕ → Option K) (bs : List ℕ) (o : Option K) → ((k : K) → named (f k) ≡ Some k) → (is_some (named bs) ≡ true → (k : K) × (bs ≡ f k))
+    → IfSome o (λ k. bs ≡ f k) → IfNone o ((k : K) → bs ≡ f k → ⊥) → o ≡ named bs
+told f named bs (Some k) is back found none = sym (ap named found ∙ is k)
+told {K = K} f named bs None is back found none = go (named bs) back
   where
-    go : (t : Bool) → (t ≡ true → (k : K) × (bs ≡ f k)) → false ≡ t
-    go true h = let (k, e) = h refl in absurd (none k e)
-    go false h = refl
+    go : (o : Option K) → (is_some o ≡ true → (k : K) × (bs ≡ f k)) → None ≡ o
+    go None h = refl
+    go (Some k) h = let (j, e) = h refl in absurd (none j e)
 
-pub keyword_told : (bs : List ℕ) (o : Option Keyword) → IfSome o (λ k. bs ≡ keyword_bytes k) → IfNone o ((k : Keyword) → bs ≡ keyword_bytes k → ⊥) → is_some o ≡ is_keyword bs
-keyword_told bs o = told keyword_bytes is_keyword bs o keyword_is (keyword_spelled bs)
+-- What a look-up finds by its spelling is the keyword, or the symbol, that is named.
+pub keyword_told : (bs : List ℕ) (o : Option Keyword) → IfSome o (λ k. bs ≡ keyword_bytes k) → IfNone o ((k : Keyword) → bs ≡ keyword_bytes k → ⊥) → o ≡ keyword_named bs
+keyword_told bs o = told keyword_bytes keyword_named bs o named-keyword_bytes (keyword_spelled bs)
 
-pub symbol_told : (bs : List ℕ) (o : Option Symbol) → IfSome o (λ s. bs ≡ symbol_bytes s) → IfNone o ((s : Symbol) → bs ≡ symbol_bytes s → ⊥) → is_some o ≡ is_symbol bs
-symbol_told bs o = told symbol_bytes is_symbol bs o symbol_is (symbol_spelled bs)
+pub symbol_told : (bs : List ℕ) (o : Option Symbol) → IfSome o (λ s. bs ≡ symbol_bytes s) → IfNone o ((s : Symbol) → bs ≡ symbol_bytes s → ⊥) → o ≡ symbol_named bs
+symbol_told bs o = told symbol_bytes symbol_named bs o named-symbol_bytes (symbol_spelled bs)
 
 symbol_short : (s : Symbol) → length (symbol_bytes s) ≤ 2
 symbol_short symbol.Semicolon = omega arith

@@ -1,6 +1,6 @@
 -- How keywords and symbols are spelled. This project's own syntax.
-use Rattle.std.specs.Prelude.{ℕ, List, [], ◌∷◌, Bool, codes, bytes_eq}
-use Rattle.std.specs.List.{list_any}
+use Rattle.std.specs.Prelude.{ℕ, List, [], ◌∷◌, Bool, Option, is_some, codes, bytes_eq}
+use Rattle.std.specs.List.{find}
 use Rattle.program_lexemes.specs.declared.keywords.Keyword.{Keyword}
 use Rattle.program_lexemes.specs.declared.keywords.Keyword.TheVariants.{Signal, Int, Set, In, Skip, If, Then, Else, New, Hence, Next, Always, When, Do, Watching, Time, On}
 use Rattle.program_lexemes.specs.declared.symbols.Symbol.{Symbol}
@@ -50,10 +50,18 @@ keywords = Signal ∷ Int ∷ Set ∷ In ∷ Skip ∷ If ∷ Then ∷ Else ∷ N
 abbrev pub symbols : List Symbol
 symbols = Semicolon ∷ Comma ∷ Range ∷ Ampersand ∷ Bars ∷ OpenBrace ∷ CloseBrace ∷ Bang ∷ Hash ∷ GreaterEqual ∷ LessEqual ∷ Equal ∷ Colon ∷ []
 
+-- the keyword that is spelled with these bytes
+abbrev pub keyword_named : List ℕ → Option Keyword
+keyword_named bytes = find (λ k. bytes_eq bytes (keyword_bytes k)) keywords
+
+-- the symbol that is spelled with these bytes
+abbrev pub symbol_named : List ℕ → Option Symbol
+symbol_named bytes = find (λ s. bytes_eq bytes (symbol_bytes s)) symbols
+
 -- the bytes are a keyword
 abbrev pub is_keyword : List ℕ → Bool
-is_keyword bytes = list_any (λ k. bytes_eq bytes (keyword_bytes k)) keywords
+is_keyword bytes = is_some (keyword_named bytes)
 
 -- the bytes are a symbol
 abbrev pub is_symbol : List ℕ → Bool
-is_symbol bytes = list_any (λ s. bytes_eq bytes (symbol_bytes s)) symbols
+is_symbol bytes = is_some (symbol_named bytes)

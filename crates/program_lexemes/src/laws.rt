@@ -4,7 +4,9 @@ ghost use Rattle.program_lexemes.specs.Forms.{kind_of};
 ghost use Rattle.program_lexemes.specs.Lexemes.{AreLexemes};
 ghost use Rattle.program_lexemes.specs.Numbers.{is_number, number_of};
 ghost use Rattle.program_lexemes.specs.Pieces.{AreCut, Piece, joined, spans};
-ghost use Rattle.program_lexemes.specs.Spellings.{is_keyword, is_symbol};
+ghost use Rattle.program_lexemes.specs.Spellings.{is_keyword, is_symbol, keyword_bytes, keyword_named, symbol_bytes, symbol_named};
+ghost use Rattle.program_lexemes.specs.declared.keywords.Keyword.{Keyword};
+ghost use Rattle.program_lexemes.specs.declared.symbols.Symbol.{Symbol};
 ghost use Rattle.program_lexemes.specs.declared.bytes.TextForm.{TextForm};
 ghost use Rattle.program_lexemes.specs.declared.lexer.LexKind.TheVariants as LexKind;
 
@@ -13,6 +15,12 @@ ghost use Rattle.program_lexemes.specs.declared.lexer.LexKind.TheVariants as Lex
 pub fn joined_law()
     ensures { (form : TextForm) (ps : List Piece) → AreCut form ps
         → AreLexemes form (joined ps) (spans 0 ps) }
+{}
+
+/// Keywords and symbols are told apart by their spelling.
+pub fn spellings_law()
+    ensures keywords { (k : Keyword) → keyword_named (keyword_bytes k) ≡ Some k }
+    ensures symbols { (s : Symbol) → symbol_named (symbol_bytes s) ≡ Some s }
 {}
 
 /// The bytes of a keyword, a symbol or a number are one.
