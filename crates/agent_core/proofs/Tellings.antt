@@ -16,7 +16,8 @@ use Rattle.agent_core.specs.Scope.{TokenFits, AskFits}
 use Rattle.agent_core.specs.Rests.{holds_at, holds, entails}
 use Rattle.agent_core.specs.Tellings.{tell_at, tell_all}
 use Rattle.agent_core.proofs.OneStore.{value_at-fits}
-use Rattle.agent_core.proofs.Told.{Tells, told-Tells, bottom_covered}
+use Rattle.token_system.proofs.Adding.{bottom_covered}
+use Rattle.agent_core.proofs.Told.{Tells, told-Tells}
 use Rattle.agent_core.proofs.Bools.{both, first_of_both, second_of_both}
 
 -- the store of which nothing is told

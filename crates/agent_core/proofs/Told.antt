@@ -1,55 +1,25 @@
 -- A store in which a token is told is the least that entails the token and all that the store entails.
-use Rattle.std.proofs.Common.{◌≡◌, ◌⊎◌, inl, inr, Bool, true, false, cond, ℤ, Some, refl, sym, ap, ◌∙◌, subst, arith}
+use Rattle.std.proofs.Common.{◌≡◌, ◌⊎◌, inl, inr, Bool, true, false, cond, Some, refl, sym, ap, ◌∙◌, subst}
 use Rattle.std.specs.Prelude.{IsTrue, unwrap_or}
 use Rattle.std.specs.FinMap.{get, insert, get-insert}
-use Rattle.std.specs.Ordering.{eq_by_cmp, is_eq}
+use Rattle.std.specs.Ordering.{eq_by_cmp}
 use Rattle.std.specs.Cmp.{eq_by_cmp_equiv}
-use Rattle.std.specs.declared.cmp.Ordering.{Ordering}
-use Rattle.std.specs.declared.cmp.Ordering.TheVariants.{Less, Equal, Greater}
-use Rattle.std.proofs.lemmas.Int.{ints}
-use Rattle.token_system.specs.declared.cell.Kind.{Kind}
-use Rattle.token_system.specs.declared.cell.Kind.TheVariants as kinds
 use Rattle.token_system.specs.declared.cell.Cell.{Cell}
 use Rattle.token_system.specs.declared.cell.Token.{Token}
-use Rattle.token_system.specs.declared.cell.Token.TheVariants.{On, Off, AtLeast, AtMost, Clash}
 use Rattle.token_system.specs.declared.cell.Value.{Value}
-use Rattle.token_system.specs.declared.cell.Value.TheVariants as values
 use Rattle.token_system.specs.declared.name.CellName.{CellName}
 use Rattle.token_system.specs.Tokens.{Fits}
-use Rattle.token_system.specs.Values.{bottom_of, bottom_for, value_with, value_entails, value_eq, WithinDomain}
-use Rattle.token_system.specs.Names.{name_cmp, name_total, name_cmp-IsAntisymmetric}
+use Rattle.token_system.specs.Values.{bottom_of, value_with, value_entails, value_eq}
+use Rattle.token_system.specs.Names.{name_cmp, name_total}
 use Rattle.token_system.specs.Stores.{Valuation, value_at, store_entails, told, IsKeptFor}
-use Rattle.token_system.proofs.Alike.{Covers, true_false}
-use Rattle.token_system.proofs.Adding.{Added, added, value_eq-true, value_eq-itself}
+use Rattle.token_system.proofs.Alike.{true_false}
+use Rattle.token_system.proofs.Adding.{Added, added, bottom_covered, value_eq-true, value_eq-itself}
+use Rattle.token_system.proofs.Telling.{equal_names}
 use Rattle.agent_core.specs.declared.node.CellDecl.{CellDecl}
 use Rattle.agent_core.specs.Programs.{CoreProgram}
 use Rattle.agent_core.specs.Names.{Names}
 use Rattle.agent_core.specs.Stores.{IsStore, Below}
 use Rattle.agent_core.proofs.OneStore.{Names-one, value_at-fits}
-
--- every value of the kind entails what the bottom does
-pub bottom_covered : (k : Kind) (lo hi : ℤ) (x : Value) → WithinDomain lo hi k x → Covers k (bottom_for k lo hi) x
-bottom_covered k lo hi values.Clash d t f h = refl
-bottom_covered kinds.Signal lo hi (values.Signal a b) d On f h = absurd (true_false (sym h))
-bottom_covered kinds.Signal lo hi (values.Signal a b) d Off f h = absurd (true_false (sym h))
-bottom_covered kinds.Signal lo hi (values.Signal a b) d Clash f h = absurd (true_false (sym h))
-bottom_covered kinds.Signal lo hi (values.Signal a b) d (AtLeast n) f h = absurd (true_false (sym f))
-bottom_covered kinds.Signal lo hi (values.Signal a b) d (AtMost n) f h = absurd (true_false (sym f))
-bottom_covered kinds.Number lo hi (values.Number a b) d On f h = absurd (true_false (sym f))
-bottom_covered kinds.Number lo hi (values.Number a b) d Off f h = absurd (true_false (sym f))
-bottom_covered kinds.Number lo hi (values.Number a b) d Clash f h = absurd (true_false (sym h))
-bottom_covered kinds.Number lo hi (values.Number a b) d (AtLeast n) f h = grind (arith, ints)
-bottom_covered kinds.Number lo hi (values.Number a b) d (AtMost n) f h = grind (arith, ints)
-bottom_covered kinds.Signal lo hi (values.Number a b) d t f h = absurd d
-bottom_covered kinds.Number lo hi (values.Signal a b) d t f h = absurd d
-
-pub equal_names : (q n : CellName) → eq_by_cmp name_cmp q n ≡ true → q ≡ n
-equal_names q n e = name_cmp-IsAntisymmetric q n (go (name_cmp q n) e)
-  where
-    go : (r : Ordering) → is_eq r ≡ true → r ≡ Equal
-    go Less h = absurd (true_false (sym h))
-    go Equal h = refl
-    go Greater h = absurd (true_false (sym h))
 
 -- at one name, w entails what u does
 abbrev pub BelowAt : CoreProgram → Valuation → Valuation → CellName → Type 0

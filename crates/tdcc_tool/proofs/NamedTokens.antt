@@ -26,7 +26,7 @@ use Rattle.agent_core.specs.Scope.{TokenFits, AskFits}
 use Rattle.agent_core.specs.Rests.{entails}
 use Rattle.agent_core.specs.Tellings.{tell_at, tell_all}
 use Rattle.agent_core.proofs.OneStore.{Below-antisym}
-use Rattle.agent_core.proofs.Told.{equal_names}
+use Rattle.token_system.proofs.Telling.{equal_names}
 use Rattle.agent_core.proofs.Tellings.{empty-IsStore, empty-Below, tell_all-least, tell_all-entails}
 use Rattle.tdcc_tool.specs.Signals.{HasSignalsOnly}
 use Rattle.tdcc_tool.specs.FirstForm.{signal_decl}
