@@ -2,9 +2,8 @@
 //! does all the work.
 #![tactic(auto)]
 
-use std::env;
-use std::io;
 use std::process::ExitCode;
+use std::{env, io};
 use tdcc_base::{OpenGate, StdSink, StdSource};
 use tdcc_tool::tdcc;
 
@@ -25,6 +24,14 @@ fn main(rt: HostRuntime) -> io::Result<ExitCode> {
     let mut source = StdSource::new(rt.stdin());
     let mut out = StdSink::new(rt.stdout());
     let mut err = StdSink::new(rt.stderr());
-    let status = tdcc(&rt, rt.alloc(), &words, &mut source, &mut out, &mut err, &OpenGate);
+    let status = tdcc(
+        &rt,
+        rt.alloc(),
+        &words,
+        &mut source,
+        &mut out,
+        &mut err,
+        &OpenGate,
+    );
     Ok(ExitCode::from(status.number()))
 }
