@@ -10,3 +10,4 @@ pub mod Stores
 pub mod Rests
 pub mod Observed
 pub mod Outputs
+pub mod Worked

@@ -1,0 +1,7 @@
+ghost use Rattle.agent_core.specs.Worked.{RestsUnderItsTell, TellsAfterAbsence};
+
+/// What the definitions of rest say of two small programs, within an instant and after one.
+pub fn worked_law()
+    ensures within { RestsUnderItsTell }
+    ensures later { TellsAfterAbsence }
+{}
