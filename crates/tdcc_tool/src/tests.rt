@@ -86,6 +86,7 @@ fn words_that_are_no_command_read_nothing(rt: HostRuntime) -> Result<(), Fail> {
         "walk",
         "run run",
         "run --workers 65",
+        "run --workers 0",
         "run --fuel 1 --fuel 1",
     ] {
         let alloc = rt.alloc();
@@ -99,9 +100,12 @@ fn words_that_are_no_command_read_nothing(rt: HostRuntime) -> Result<(), Fail> {
 
 #[test]
 fn a_line_with_an_unknown_name_stops_the_run(rt: HostRuntime) -> Result<(), Fail> {
-    let input = b"signal a, b; if a then b\n%%\na\nc\na\n".as_slice();
+    let first = b"signal a, b; if a then b\n%%\nc\n".as_slice();
+    let wanted = "4||tdcc: trace: instant 0: bad token at offset 0\n";
+    assert_run(&rt, rt.alloc(), first, wanted)?;
+    let later = b"signal a, b; if a then b\n%%\na\nc\na\n".as_slice();
     let wanted = "4|a b\n|tdcc: trace: instant 1: bad token at offset 0\n";
-    assert_run(&rt, rt.alloc(), input, wanted)
+    assert_run(&rt, rt.alloc(), later, wanted)
 }
 
 #[test]
@@ -111,7 +115,7 @@ fn texts_of_other_forms_are_refused(rt: HostRuntime) -> Result<(), Fail> {
     assert_run(
         &rt,
         alloc,
-        b"signal a, b; always if a else b".as_slice(),
+        b"signal a, b; always if a else b\n%%\n\na\n".as_slice(),
         wanted,
     )?;
     assert_run(&rt, alloc, b"signal a; b".as_slice(), wanted)?;
