@@ -1,0 +1,10 @@
+pub mod Sayings
+pub mod Stages
+pub mod Refusals
+pub mod TermViews
+pub mod Widths
+pub mod Limits
+pub mod Passes
+pub mod LimitPass
+pub mod Scope
+pub mod NamingPass

@@ -1,0 +1,31 @@
+-- Passes over a program from left to right: what becomes of a state where a part of the grammar takes the term at a
+-- place, and where a part is left without one. This project's own.
+use Rattle.std.specs.Prelude.{ℕ, ℤ, ◌+◌, List, [], ◌∷◌, get_or}
+use Rattle.program_grammar.specs.Terms.{Term, Name, Number, Skip, class_of}
+use Rattle.program_grammar.specs.declared.words.Word.{Word}
+use Rattle.program_grammar.specs.declared.parts.Part.{Part}
+use Rattle.program_grammar.specs.declared.machine.Step.{Step}
+use Rattle.program_grammar.specs.declared.machine.Step.TheVariants.{Took, Left}
+use Rattle.program_grammar.specs.Events.{Event, Takes, Leaves}
+
+pub record Pass (S : Type 0) : Type 0 where
+  pub takes : ℕ → Part → Term → S → S
+  pub leaves : Part → S → S
+
+-- over steps, with the terms that they speak of
+abbrev pub over_steps : {S : Type 0} → Pass S → List Term → List Step → S → S
+over_steps f ts [] s = s
+over_steps f ts (Took p place ∷ ss) s = over_steps f ts ss (f.takes place p (get_or ts place Skip) s)
+over_steps f ts (Left p ∷ ss) s = over_steps f ts ss (f.leaves p s)
+
+-- over events of which the first term is at this place
+abbrev pub over_events : {S : Type 0} → Pass S → ℕ → List Event → S → S
+over_events f at [] s = s
+over_events f at (Takes p t ∷ es) s = over_events f (at + 1) es (f.takes at p t s)
+over_events f at (Leaves p ∷ es) s = over_events f at es (f.leaves p s)
+
+-- a choice by a term: by the bytes of a name, by the value of a number, or by any other word
+abbrev pub by_term : {S : Type 0} → (List ℕ → S) → (ℤ → S) → (Word → S) → Term → S
+by_term name number word (Name x) = name x
+by_term name number word (Number n) = number n
+by_term name number word t = word (class_of t)

@@ -1,0 +1,50 @@
+// Why a text is not read.
+ghost use Rattle.std.specs.Prelude.{◌≡◌};
+ghost use Rattle.tdcc_reader.specs.declared.fault.ReadFault.TheVariants.{Memory};
+
+use std::alloc::AllocError;
+
+/// Why a text was not read. Lexemes are numbered from 0.
+#[derive(Clone, Copy, Debug, PartialEq, Eq)]
+pub enum ReadFault {
+    /// The text has more bytes than it may have.
+    TextTooLong,
+    /// At this byte begins neither white space nor a lexeme, and it is the first one.
+    Lex { offset: u32 },
+    /// This lexeme is a name of more than 32 bytes, and no lexeme before it is too long.
+    LongName { lexeme: u32 },
+    /// This lexeme is a number of more than 9 digits, and no lexeme before it is too long.
+    LongNumber { lexeme: u32 },
+    /// This lexeme is the first one that belongs to a form that is not built yet.
+    Later { lexeme: u32 },
+    /// The lexemes are no program, and so many of them begin one.
+    Syntax { lexeme: u32 },
+    /// With this lexeme begins the first unit that is inside 64 others.
+    TooDeep { lexeme: u32 },
+    /// With this lexeme begins the first ninth token of a constraint.
+    TooManyTokens { lexeme: u32 },
+    /// This name is declared where a declaration of it is in scope.
+    DoubleName { lexeme: u32 },
+    /// This number is the least value of a domain whose greatest value is less.
+    EmptyDomain { lexeme: u32 },
+    /// This name stands in a token, and no declaration of it is in scope.
+    UnknownName { lexeme: u32 },
+    /// This name of a number stands alone or behind `!`, or this name of a signal has a bound.
+    WrongKind { lexeme: u32 },
+    /// More than 256 cells are declared.
+    TooManyDeclared,
+    /// The program has more than 4,096 nodes.
+    TooManyNodes,
+    /// The program has more than 1,024 cells.
+    TooManyCells,
+    /// An allocation failed.
+    Memory,
+}
+
+impl From<AllocError> for ReadFault {
+    ghost from_gives = { λ _ e. e ≡ Memory };
+
+    fn from(_error: AllocError) -> ReadFault {
+        ReadFault::Memory
+    }
+}

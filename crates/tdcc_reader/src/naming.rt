@@ -1,0 +1,292 @@
+// The names of a program: the first one that is declared twice, not at all or as something else, or the first empty
+// domain.
+ghost use Rattle.std.specs.Prelude.{◌≡◌, IfErr, IfOk, None, OnOk, [], map, reverse};
+ghost use Rattle.program_grammar.specs.Phrases.{Program};
+ghost use Rattle.program_grammar.specs.Programs.{Spells};
+ghost use Rattle.program_grammar.specs.Reading.{AreSteps};
+ghost use Rattle.program_grammar.specs.declared.words.Language.TheVariants as Language;
+ghost use Rattle.tdcc_reader.specs.NamingPass.{declares, known_view, leaves_names, leaves_scope, names, names_view, naming_pass, note, takes_fixed, takes_high, takes_low, takes_name, takes_names, takes_number, uses_name, with_bound, without_bound};
+ghost use Rattle.tdcc_reader.specs.Passes.{over_steps};
+ghost use Rattle.tdcc_reader.specs.Refusals.{RefusesNames};
+ghost use Rattle.tdcc_reader.specs.Scope.{any_use, double_fault, kind_of, number_fault, program_fault, signal_fault, unknown_fault};
+ghost use Rattle.tdcc_reader.specs.TermViews.{term_view};
+
+use crate::fault::ReadFault;
+use crate::terms::{Term, term_at};
+use program_grammar::{Part, Step, places_law};
+use std::alloc::{AllocError, Global};
+use token_system::Kind;
+
+/// What is wrong with a name, at its lexeme, or with a domain, at its least number.
+#[derive(Clone, Copy, Debug, PartialEq, Eq)]
+pub(crate) enum NameFault {
+    DoubleName(u32),
+    EmptyDomain(u32),
+    UnknownName(u32),
+    WrongKind(u32),
+}
+
+/// A name in scope, and the kind of its cell.
+#[derive(Clone, Copy, Debug, PartialEq, Eq)]
+struct Known<'a> {
+    name: &'a [u8],
+    kind: Kind,
+}
+
+/// What a later lexeme decides.
+#[derive(Clone, Copy, Debug, PartialEq, Eq)]
+enum Waiting {
+    Nothing,
+    /// A name that stands as a token, at its lexeme, with the kind of its cell where it is in scope.
+    Name(Option<Kind>, u32),
+    /// The least number of a domain, at its lexeme.
+    Low(i64, u32),
+}
+
+/// How far the names are looked at.
+#[derive(Debug, Drop)]
+struct Naming<'a> {
+    scope: Vec<Known<'a>>,
+    waiting: Waiting,
+    found: Option<NameFault>,
+}
+
+/// The kind of a name's cell, where it is in scope.
+fn kind_of(scope: &[Known<'_>], name: &[u8]) -> Option<Kind>
+    ensures { result ≡ kind_of (reverse (map known_view scope.now)) name.now }
+{
+    let mut left = scope.len();
+    while left > 0 {
+        left -= 1;
+        if scope[left].name == name {
+            return Some(scope[left].kind);
+        }
+    }
+    None
+}
+
+/// A use of a name that is not in scope.
+fn unknown(kind: Option<Kind>, lexeme: u32) -> Option<NameFault>
+    ensures { result ≡ unknown_fault kind lexeme }
+{
+    match kind {
+        Some(_) => None,
+        None => Some(NameFault::UnknownName(lexeme)),
+    }
+}
+
+/// A use of a number's name as that of a signal.
+fn no_signal(kind: Option<Kind>, lexeme: u32) -> Option<NameFault>
+    ensures { result ≡ signal_fault kind lexeme }
+{
+    match kind {
+        Some(Kind::Number) => Some(NameFault::WrongKind(lexeme)),
+        _ => None,
+    }
+}
+
+/// A use of a signal's name as that of a number.
+fn no_number(kind: Option<Kind>, lexeme: u32) -> Option<NameFault>
+    ensures { result ≡ number_fault kind lexeme }
+{
+    match kind {
+        Some(Kind::Signal) => Some(NameFault::WrongKind(lexeme)),
+        _ => None,
+    }
+}
+
+impl<'a> Naming<'a> {
+    /// Keeps the fault, where none was found before.
+    fn note(&mut self, fault: Option<NameFault>)
+        ensures { names_view self.new ≡ note fault (names_view self.old) }
+    {
+        if self.found.is_none() {
+            self.found = fault;
+        }
+    }
+
+    fn use_name(&mut self, lexeme: u32, name: &'a [u8])
+        ensures { names_view self.new ≡ uses_name lexeme name.now (names_view self.old) }
+    {
+        let kind = kind_of(&self.scope, name);
+        self.note(unknown(kind, lexeme));
+        self.waiting = Waiting::Name(kind, lexeme);
+    }
+
+    fn deny_name(&mut self, lexeme: u32, name: &'a [u8])
+        ensures { names_view self.new ≡ takes_name lexeme Part.DeniedName name.now (names_view self.old) }
+    {
+        let kind = kind_of(&self.scope, name);
+        self.note(unknown(kind, lexeme).or(no_signal(kind, lexeme)));
+    }
+
+    fn clash_name(&mut self, lexeme: u32, name: &'a [u8])
+        ensures { names_view self.new ≡ takes_name lexeme Part.ClashingName name.now (names_view self.old) }
+    {
+        let kind = kind_of(&self.scope, name);
+        self.note(unknown(kind, lexeme));
+    }
+
+    fn without_bound(&mut self)
+        ensures { names_view self.new ≡ without_bound self.old.waiting (names_view self.old) }
+    {
+        if let Waiting::Name(kind, lexeme) = self.waiting {
+            self.note(no_signal(kind, lexeme));
+            self.waiting = Waiting::Nothing;
+        }
+    }
+
+    fn with_bound(&mut self)
+        ensures { names_view self.new ≡ with_bound self.old.waiting (names_view self.old) }
+    {
+        if let Waiting::Name(kind, lexeme) = self.waiting {
+            self.note(no_number(kind, lexeme));
+            self.waiting = Waiting::Nothing;
+        }
+    }
+
+    fn declare(&mut self, kind: Kind, lexeme: u32, name: &'a [u8]) -> Result<(), AllocError>
+        ensures { OnOk result (names_view self.new ≡ declares kind lexeme name.now (names_view self.old)) }
+    {
+        if kind_of(&self.scope, name).is_some() {
+            self.note(Some(NameFault::DoubleName(lexeme)));
+        }
+        self.scope.push(Known { name, kind })?;
+        Ok(())
+    }
+
+    fn take_low(&mut self, lexeme: u32, value: i64)
+        ensures { names_view self.new ≡ takes_low lexeme value (names_view self.old) }
+    {
+        self.waiting = Waiting::Low(value, lexeme);
+    }
+
+    fn take_high(&mut self, high: i64)
+        ensures { names_view self.new ≡ takes_high self.old.waiting high (names_view self.old) }
+    {
+        if let Waiting::Low(low, lexeme) = self.waiting {
+            if high < low {
+                self.note(Some(NameFault::EmptyDomain(lexeme)));
+            }
+            self.waiting = Waiting::Nothing;
+        }
+    }
+
+    fn leave_scope(&mut self)
+        ensures { names_view self.new ≡ leaves_scope (names_view self.old) }
+    {
+        let _ = self.scope.pop();
+    }
+
+    fn take_name(&mut self, lexeme: u32, part: Part, name: &'a [u8]) -> Result<(), AllocError>
+        ensures { OnOk result (names_view self.new ≡ takes_name lexeme part name.now (names_view self.old)) }
+    {
+        match part {
+            Part::OneUnit | Part::OneToken => self.use_name(lexeme, name),
+            Part::DeniedName => self.deny_name(lexeme, name),
+            Part::ClashingName => self.clash_name(lexeme, name),
+            Part::DeclaredName | Part::LocalName => self.declare(Kind::Signal, lexeme, name)?,
+            Part::DeclaredIntName | Part::LocalIntName => {
+                self.declare(Kind::Number, lexeme, name)?;
+            }
+            _ => {}
+        }
+        Ok(())
+    }
+
+    fn take_number(&mut self, lexeme: u32, part: Part, value: i64)
+        ensures { names_view self.new ≡ takes_number lexeme part value (names_view self.old) }
+    {
+        match part {
+            Part::LowNumber => self.take_low(lexeme, value),
+            Part::HighNumber => self.take_high(value),
+            _ => {}
+        }
+    }
+
+    fn take_fixed(&mut self, part: Part)
+        ensures { names_view self.new ≡ takes_fixed part (names_view self.old) }
+    {
+        if let Part::Bound = part {
+            self.with_bound();
+        }
+    }
+
+    fn take(&mut self, lexeme: u32, part: Part, term: Term<'a>) -> Result<(), AllocError>
+        ensures { OnOk result (names_view self.new ≡ takes_names lexeme part (term_view term.entry) (names_view self.old)) }
+    {
+        match term {
+            Term::Name(name) => self.take_name(lexeme, part, name)?,
+            Term::Number(value) => self.take_number(lexeme, part, value),
+            Term::Keyword(_) => self.take_fixed(part),
+            Term::Symbol(_) => self.take_fixed(part),
+        }
+        Ok(())
+    }
+
+    fn leave(&mut self, part: Part)
+        ensures { names_view self.new ≡ leaves_names part (names_view self.old) }
+    {
+        match part {
+            Part::Bound => self.without_bound(),
+            Part::EndLocal => self.leave_scope(),
+            _ => {}
+        }
+    }
+}
+
+/// The first fault of the names.
+fn first_fault(
+    alloc: Global,
+    terms: &[Term<'_>],
+    steps: &[Step],
+) -> Result<Option<NameFault>, AllocError>
+    ensures { IfOk result (λ found. found ≡ (over_steps naming_pass (map term_view terms.now) steps.now (names [] Waiting.Nothing None)).found) }
+{
+    let mut naming = Naming {
+        scope: Vec::new(alloc),
+        waiting: Waiting::Nothing,
+        found: None,
+    };
+    for step in steps {
+        match *step {
+            Step::Took(part, place) => naming.take(place, part, term_at(terms, place))?,
+            Step::Left(part) => naming.leave(part),
+        }
+    }
+    Ok(naming.found)
+}
+
+/// The first fault of the names of the program of these terms and steps.
+fn name_fault(
+    alloc: Global,
+    terms: &[Term<'_>],
+    steps: &[Step],
+) -> Result<Option<NameFault>, AllocError>
+    ensures { (p : Program) → Spells Language.Whole p (map term_view terms.now) → AreSteps p steps.now
+        → IfOk result (λ found. found ≡ program_fault p) }
+{
+    places_law();
+    first_fault(alloc, terms, steps)
+}
+
+/// Looks whether the names of the program of these terms and steps have no fault.
+pub(crate) fn check_names(
+    alloc: Global,
+    terms: &[Term<'_>],
+    steps: &[Step],
+) -> Result<(), ReadFault>
+    ensures kept { (p : Program) → Spells Language.Whole p (map term_view terms.now) → AreSteps p steps.now
+        → IfOk result (λ _. program_fault p ≡ None) }
+    ensures fault { (p : Program) → Spells Language.Whole p (map term_view terms.now) → AreSteps p steps.now
+        → IfErr result (RefusesNames p) }
+{
+    match name_fault(alloc, terms, steps) {
+        Ok(None) => Ok(()),
+        Ok(Some(NameFault::DoubleName(lexeme))) => Err(ReadFault::DoubleName { lexeme }),
+        Ok(Some(NameFault::EmptyDomain(lexeme))) => Err(ReadFault::EmptyDomain { lexeme }),
+        Ok(Some(NameFault::UnknownName(lexeme))) => Err(ReadFault::UnknownName { lexeme }),
+        Ok(Some(NameFault::WrongKind(lexeme))) => Err(ReadFault::WrongKind { lexeme }),
+        Err(_) => Err(ReadFault::Memory),
+    }
+}
