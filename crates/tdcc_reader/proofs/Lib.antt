@@ -6,3 +6,9 @@ pub mod Firsts
 pub mod Limited
 pub mod Scoped
 pub mod Options
+pub mod Insertions
+pub mod BuiltTrees
+pub mod Sizes
+pub mod Listings
+pub mod Asks
+pub mod Finished

@@ -8,3 +8,9 @@ pub mod Passes
 pub mod LimitPass
 pub mod Scope
 pub mod NamingPass
+pub mod Trees
+pub mod Surfaces
+pub mod Drafts
+pub mod BuildPass
+pub mod Texts
+pub mod Builds

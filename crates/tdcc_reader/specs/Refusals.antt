@@ -11,11 +11,12 @@ use Rattle.program_grammar.specs.Terms.{Term, classes}
 use Rattle.program_grammar.specs.Phrases.{Program}
 use Rattle.program_grammar.specs.Programs.{Spells, IsFault}
 use Rattle.tdcc_reader.specs.declared.fault.ReadFault.{ReadFault}
-use Rattle.tdcc_reader.specs.declared.fault.ReadFault.TheVariants.{TextTooLong, Lex, LongName, LongNumber, Later, Syntax, TooDeep, TooManyTokens, DoubleName, EmptyDomain, UnknownName, WrongKind, Memory}
+use Rattle.tdcc_reader.specs.declared.fault.ReadFault.TheVariants.{TextTooLong, Lex, LongName, LongNumber, Later, Syntax, TooDeep, TooManyTokens, DoubleName, EmptyDomain, UnknownName, WrongKind, TooManyDeclared, Memory}
 use Rattle.tdcc_reader.specs.declared.limits.Limit.TheVariants as limit
 use Rattle.tdcc_reader.specs.declared.naming.NameFault.TheVariants as naming
 use Rattle.tdcc_reader.specs.Limits.{program_limit}
 use Rattle.tdcc_reader.specs.Scope.{program_fault}
+use Rattle.tdcc_reader.specs.Surfaces.{declared_cells}
 use Rattle.tdcc_reader.specs.Sayings.{terms_of, too_long}
 use Rattle.tdcc_reader.specs.Stages.{is_later}
 
@@ -72,6 +73,7 @@ RefusesTerms ts (Syntax place) = (position is_later (classes ts) ≡ None) × Is
 RefusesTerms ts Memory = Unit {0}
 RefusesTerms ts (TooDeep place) = (p : Program) × IsProgramOf ts p × RefusesLimits p (TooDeep place)
 RefusesTerms ts (TooManyTokens place) = (p : Program) × IsProgramOf ts p × RefusesLimits p (TooManyTokens place)
+RefusesTerms ts TooManyDeclared = (p : Program) × IsProgramOf ts p × (program_limit p ≡ None) × (program_fault p ≡ None) × (256 < length (declared_cells p))
 RefusesTerms ts fault = (p : Program) × IsProgramOf ts p × (program_limit p ≡ None) × RefusesNames p fault
 
 -- the text is refused: it is too long, has a bad byte or a lexeme that is too long, or its terms are refused; want of
@@ -91,3 +93,4 @@ pub record Accepts (text : List ℕ) (p : Program) : Type 0 where
   pub is : IsProgramOf terms p
   pub within : program_limit p ≡ None
   pub named : program_fault p ≡ None
+  pub declared : length (declared_cells p) ≤ 256

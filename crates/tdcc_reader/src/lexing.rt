@@ -1,6 +1,9 @@
 // The terms of a program text, with the refusals that need no grammar.
-ghost use Rattle.std.specs.Prelude.{◌≡◌, ◌≤◌, ◌<◌, ◌^◌, All, IfErr, IfOk, Some, length, map, position, vec_len};
+ghost use Rattle.std.specs.Prelude.{◌≡◌, ◌≤◌, ◌<◌, ◌^◌, All, IfErr, IfOk, List, MatchResult, Some, length, map, position, vec_len};
+ghost use Rattle.program_grammar.specs.Terms.{Term as GrammarTerm};
 ghost use Rattle.program_lexemes.specs.Lexemes.{IsIn};
+ghost use Rattle.program_lexemes.specs.declared.lexer.Lexeme.{Lexeme};
+ghost use Rattle.tdcc_reader.specs.declared.fault.ReadFault as ReadFault;
 ghost use Rattle.program_lexemes.specs.declared.bytes.TextForm.TheVariants as TextForm;
 ghost use Rattle.tdcc_reader.specs.Refusals.{HasTerms, IsLexed, Refuses, RefusesLexemes};
 ghost use Rattle.tdcc_reader.specs.Sayings.{too_long};
@@ -20,6 +23,8 @@ fn read_lexemes(alloc: Global, text: &[u8]) -> Result<Vec<Lexeme>, ReadFault>
     ensures each { IfOk result (λ ls. All (IsIn TextForm.Program text.now) ls.items) }
     ensures few { IfOk result (λ ls. length ls.items ≤ 65536) }
     ensures fault { IfErr result (Refuses text.now) }
+    ensures only { (ls : List Lexeme) → IsLexed text.now ls
+        → MatchResult result (λ found. found.items ≡ ls) (λ fault. fault ≡ ReadFault.Memory) }
 {
     if text.len() > MAX_BYTES {
         return Err(ReadFault::TextTooLong);
@@ -50,6 +55,8 @@ pub(crate) fn read_terms(alloc: Global, text: &[u8]) -> Result<Vec<Term<'_>>, Re
     ensures found { IfOk result (λ ts. HasTerms text.now (map term_view ts.items)) }
     ensures few { IfOk result (λ ts. length ts.items ≤ 65536) }
     ensures fault { IfErr result (Refuses text.now) }
+    ensures only { (ts : List GrammarTerm) → HasTerms text.now ts
+        → MatchResult result (λ found. map term_view found.items ≡ ts) (λ fault. fault ≡ ReadFault.Memory) }
 {
     let lexemes = read_lexemes(alloc, text)?;
     match terms(alloc, text, &lexemes) {

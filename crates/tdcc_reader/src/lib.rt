@@ -1,15 +1,19 @@
 //! The reader of programs: from the bytes of a text to its cells and forms, or to the first refusal.
 #![tactic(auto)]
 
+mod build;
+mod draft;
 mod fault;
 mod lexing;
 mod limits;
 mod naming;
 mod parsing;
 mod reader;
+mod surface;
 mod terms;
 #[cfg(test)]
 mod tests;
 
 pub use fault::ReadFault;
-pub use reader::check_program;
+pub use reader::read_program;
+pub use surface::{Form, Surface};

@@ -1,5 +1,5 @@
 // The limits of a program: the first unit that is too deep, or the first token that is one too many.
-ghost use Rattle.std.specs.Prelude.{◌≡◌, ◌<◌, ◌^◌, IfErr, IfOk, None, if◌then◌else◌, map};
+ghost use Rattle.std.specs.Prelude.{◌≡◌, ◌<◌, ◌^◌, IfErr, IfOk, IsOk, None, if◌then◌else◌, map};
 ghost use Rattle.program_grammar.specs.Phrases.{Program};
 ghost use Rattle.program_grammar.specs.Programs.{Spells};
 ghost use Rattle.program_grammar.specs.Reading.{AreSteps};
@@ -170,6 +170,8 @@ pub(crate) fn check_limits(terms: &[Term<'_>], steps: &[Step]) -> Result<(), Rea
         → IfOk result (λ _. program_limit p ≡ None) }
     ensures fault { (p : Program) → Spells Language.Whole p (map term_view terms.now) → AreSteps p steps.now
         → IfErr result (RefusesLimits p) }
+    ensures only { (p : Program) → Spells Language.Whole p (map term_view terms.now) → AreSteps p steps.now
+        → program_limit p ≡ None → IsOk result }
 {
     match past_limit(terms, steps) {
         None => Ok(()),

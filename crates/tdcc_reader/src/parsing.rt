@@ -1,8 +1,9 @@
 // The steps of a program, with the refusals of its grammar.
-ghost use Rattle.std.specs.Prelude.{◌≡◌, ◌≤◌, ◌<◌, ◌^◌, IfErr, IfOk, length, map, position};
+ghost use Rattle.std.specs.Prelude.{◌≡◌, ◌≤◌, ◌<◌, ◌^◌, IfErr, IfOk, MatchResult, length, map, position};
 ghost use Rattle.program_grammar.specs.Phrases.{Program};
 ghost use Rattle.program_grammar.specs.Reading.{AreSteps};
 ghost use Rattle.tdcc_reader.specs.Refusals.{IsProgramOf, RefusesTerms};
+ghost use Rattle.tdcc_reader.specs.declared.fault.ReadFault as ReadFault;
 ghost use Rattle.tdcc_reader.specs.Stages.{is_later};
 ghost use Rattle.tdcc_reader.specs.TermViews.{term_view};
 
@@ -41,6 +42,8 @@ pub(crate) fn read_steps(alloc: Global, terms: &[Term<'_>]) -> Result<Vec<Step>,
     ensures found { IfOk result (λ steps. (p : Program) ×
         IsProgramOf (map term_view terms.now) p × AreSteps p steps.items) }
     ensures fault { IfErr result (RefusesTerms (map term_view terms.now)) }
+    ensures only { (p : Program) → IsProgramOf (map term_view terms.now) p
+        → MatchResult result (λ steps. AreSteps p steps.items) (λ fault. fault ≡ ReadFault.Memory) }
 {
     let words = words(alloc, terms)?;
     if let Some(place) = first_later(&words) {

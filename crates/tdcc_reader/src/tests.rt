@@ -2,10 +2,11 @@
 use super::*;
 use std::alloc::Global;
 use std::test::Fail;
+use token_system::Token;
 
 /// The refusal of the text.
 fn refusal(alloc: Global, text: &[u8]) -> Option<ReadFault> {
-    check_program(alloc, text).err()
+    read_program(alloc, text).err()
 }
 
 #[test]
@@ -105,4 +106,69 @@ fn the_first_fault_of_names_decides(rt: HostRuntime) {
         refusal(alloc, b"new signal s in s || new int s in 0..0 in #s"),
         None
     );
+}
+
+#[test]
+fn a_par_of_three_groups_to_the_right(rt: HostRuntime) -> Result<(), Fail> {
+    let read = read_program(rt.alloc(), b"signal a; a || skip || hence a")?;
+    assert_eq!(rt; read.declared(), 1);
+    assert_eq!(rt; read.cells().len(), 1);
+    assert_eq!(rt; read.forms().len(), 6);
+    assert!(rt; matches!(read.forms().get(0), Some(Form::Par { left: 1, right: 2 })));
+    assert!(rt; matches!(read.forms().get(2), Some(Form::Par { left: 3, right: 4 })));
+    assert!(rt; matches!(read.forms().get(4), Some(Form::Hence { body: 5 })));
+    Ok(())
+}
+
+#[test]
+fn an_equation_is_two_bounds(rt: HostRuntime) -> Result<(), Fail> {
+    let read = read_program(
+        rt.alloc(),
+        b"int x in 0..10; signal a; {new int y in -1..1 in y=1 || a} || if x<=2 & #a else !a",
+    )?;
+    assert_eq!(rt; read.declared(), 2);
+    assert_eq!(rt; read.cells().len(), 3);
+    if let Some(local) = read.cells().get(2) {
+        assert_eq!(rt; local.name.bytes(), b"y".as_slice());
+        assert_eq!(rt; local.cell.lo, -1);
+    }
+    assert!(rt; matches!(read.forms().get(0), Some(Form::Par { left: 1, right: 5 })));
+    assert!(rt; matches!(read.forms().get(1), Some(Form::Par { left: 2, right: 4 })));
+    assert!(rt; matches!(read.forms().get(2), Some(Form::New { cell: 2, body: 3 })));
+    if let Some(Form::Tell(told)) = read.forms().get(3) {
+        assert_eq!(rt;
+            told.list(),
+            [(2, Token::AtLeast(1)), (2, Token::AtMost(1))].as_slice()
+        );
+    }
+    if let Some(Form::Else { ask, body }) = read.forms().get(5) {
+        assert_eq!(rt;
+            ask.list(),
+            [(0, Token::AtMost(2)), (1, Token::Clash)].as_slice()
+        );
+        assert_eq!(rt; *body, 6);
+    }
+    Ok(())
+}
+
+#[test]
+fn too_many_cells_are_told_last(rt: HostRuntime) -> Result<(), Fail> {
+    let alloc = rt.alloc();
+    let mut text = Vec::new(alloc);
+    text.extend_from_slice(b"signal z")?;
+    for first in b'a'..=b'p' {
+        for second in b'a'..=b'p' {
+            text.extend_from_slice(b", x")?;
+            text.push(first)?;
+            text.push(second)?;
+        }
+    }
+    text.extend_from_slice(b"; z")?;
+    assert_eq!(rt; refusal(alloc, &text), Some(ReadFault::TooManyDeclared));
+    text.push(b'z')?;
+    assert_eq!(rt;
+        refusal(alloc, &text),
+        Some(ReadFault::UnknownName { lexeme: 515 })
+    );
+    Ok(())
 }

@@ -1,0 +1,99 @@
+-- What is built of an accepted text is its surface.
+use Rattle.std.proofs.Common.{◌≡◌, ℕ, zero, suc, ◌+◌, ◌<◌, ◌≤◌, List, [], ◌∷◌, length, get_or, refl, ap, sym, ◌∙◌, arith, subst, Option, None}
+use Rattle.std.specs.Prelude.{All, map}
+use Rattle.std.proofs.lemmas.List.{length-map}
+use Rattle.program_grammar.specs.Phrases.{Program}
+use Rattle.program_grammar.specs.Spelling.{program}
+use Rattle.agent_core.specs.declared.node.CellDecl.{CellDecl}
+use Rattle.tdcc_reader.specs.declared.draft.Draft.{Draft}
+use Rattle.tdcc_reader.specs.declared.surface.Form.{Form}
+use Rattle.tdcc_reader.specs.Trees.{size}
+use Rattle.tdcc_reader.specs.Surfaces.{SurfaceProgram, IsSurfaceOf, program_tree, program_cells, declared_cells, cell_view}
+use Rattle.tdcc_reader.specs.Drafts.{IsWhole, IsWholeDraft, draft_view, drafts, forms_at}
+use Rattle.tdcc_reader.specs.BuildPass.{Built}
+use Rattle.tdcc_reader.specs.Builds.{IsBuilt, IsChecked, IsReady}
+use Rattle.program_grammar.specs.Terms.{Term}
+use Rattle.tdcc_reader.specs.Limits.{program_limit}
+use Rattle.tdcc_reader.specs.Scope.{program_fault}
+use Rattle.tdcc_reader.specs.Refusals.{HasTerms, IsProgramOf, RefusesTerms, Refuses}
+use Rattle.tdcc_reader.specs.declared.fault.ReadFault.{ReadFault}
+use Rattle.tdcc_reader.specs.declared.fault.ReadFault.TheVariants as fault
+use Rattle.tdcc_reader.proofs.Sizes.{cells_fit, forms_fit}
+use Rattle.tdcc_reader.proofs.Listings.{listed}
+use Rattle.tdcc_reader.proofs.Asks.{program_whole}
+
+get_or-map : {X Y : Type 0} (f : X → Y) (xs : List X) (k : ℕ) (d : X) → get_or (map f xs) k (f d) ≡ f (get_or xs k d)
+get_or-map f [] zero d = refl
+get_or-map f [] (suc k) d = refl
+get_or-map f (x ∷ xs) zero d = refl
+get_or-map f (x ∷ xs) (suc k) d = get_or-map f xs k d
+
+-- the drafts of the code have whole asks
+pub ready_whole : (text : List ℕ) (p : Program) (b : Built) (ds : List Draft) → IsReady text p b → map draft_view ds ≡ b.drafts → All IsWholeDraft ds
+ready_whole text p b ds r e k d h =
+    let all : All IsWhole (map draft_view ds) = subst (All IsWhole) (sym (e ∙ r.built.tree)) (program_whole p r.accepts.within) in
+    let l = length-map ds draft_view in
+    subst IsWhole (get_or-map draft_view ds k d) (all k (draft_view d) (omega arith))
+
+pub ready_few : (text : List ℕ) (p : Program) (b : Built) → IsReady text p b → b.declared ≤ 256
+ready_few text p b r = let d = r.accepts.declared in let e = r.built.declared in omega arith
+
+-- the surface of the program
+pub ready_surface : (text : List ℕ) (p : Program) (b : Built) (cells : List CellDecl) (forms : List Form) → IsReady text p b → map cell_view cells ≡ b.cells → forms ≡ forms_at 0 b.drafts
+    → IsSurfaceOf p (record { cells = cells; declared = b.declared; forms = forms })
+ready_surface text p b cells forms r ec ef =
+    let f = forms_fit p in
+    let w = r.few in
+    record {
+      cells = ec ∙ r.built.cells;
+      declared = r.built.declared;
+      forms = ef ∙ ap (forms_at 0) r.built.tree ∙ listed (program_tree p) 0 (omega arith);
+    }
+
+terms_long : (ts : List Term) (p : Program) → IsProgramOf ts p → length ts ≡ length (program p [])
+terms_long ts p is = ap length is.spells.spelled
+
+-- a program of few terms has few cells
+pub few_cells : (ts : List Term) (p : Program) → IsProgramOf ts p → length ts ≤ 65536 → length (program_cells p) ≤ 4294967295
+few_cells ts p is h = let e = terms_long ts p is in let f = cells_fit p in omega arith
+
+pub all_checked : (p : Program) (b : Built) → program_limit p ≡ None → program_fault p ≡ None → IsBuilt p b → b.declared ≤ 256 → IsChecked p b
+all_checked p b within named built few = record {
+  within = within;
+  named = named;
+  declared = (let e = built.declared in omega arith);
+  built = built;
+}
+
+pub many_declared : (p : Program) (b : Built) → IsBuilt p b → 256 < b.declared → 256 < length (declared_cells p)
+many_declared p b built many = let e = built.declared in omega arith
+
+pub all_ready : (text : List ℕ) (ts : List Term) (p : Program) (b : Built) → HasTerms text ts → length ts ≤ 65536 → IsProgramOf ts p → IsChecked p b → IsReady text p b
+all_ready text ts p b has few is checked = record {
+  accepts = record { terms = ts; has = has; is = is; within = checked.within; named = checked.named; declared = checked.declared };
+  few = (let e = terms_long ts p is in omega arith);
+  built = checked.built;
+}
+
+-- what refuses the terms refuses the text
+pub terms_refused : (text : List ℕ) (ts : List Term) (e : ReadFault) → HasTerms text ts → RefusesTerms ts e → Refuses text e
+terms_refused text ts fault.TextTooLong h (p, is, w, r) = absurd r
+terms_refused text ts (fault.Lex n) h (p, is, w, r) = absurd r
+terms_refused text ts (fault.LongName n) h (p, is, w, r) = absurd r
+terms_refused text ts (fault.LongNumber n) h (p, is, w, r) = absurd r
+terms_refused text ts (fault.Later n) h r = (ts, h, r)
+terms_refused text ts (fault.Syntax n) h r = (ts, h, r)
+terms_refused text ts (fault.TooDeep n) h r = (ts, h, r)
+terms_refused text ts (fault.TooManyTokens n) h r = (ts, h, r)
+terms_refused text ts (fault.DoubleName n) h r = (ts, h, r)
+terms_refused text ts (fault.EmptyDomain n) h r = (ts, h, r)
+terms_refused text ts (fault.UnknownName n) h r = (ts, h, r)
+terms_refused text ts (fault.WrongKind n) h r = (ts, h, r)
+terms_refused text ts fault.TooManyDeclared h r = (ts, h, r)
+terms_refused text ts fault.TooManyNodes h r = (ts, h, r)
+terms_refused text ts fault.TooManyCells h r = (ts, h, r)
+terms_refused text ts fault.Memory h r = tt
+
+-- a program that declares few cells is not refused for them
+pub not_many : {X : Type 0} (p : Program) (b : Built) → IsBuilt p b → 256 < b.declared → length (declared_cells p) ≤ 256 → X
+not_many p b built many few = let e = built.declared in absurd (omega arith)

@@ -1,0 +1,444 @@
+// The drafts of a program, from its steps.
+ghost use Rattle.std.specs.Prelude.{◌≡◌, ◌∷◌, ◌≤◌, ℕ, List, [], IfErr, IfOk, OnOk, length, map, reverse};
+ghost use Rattle.program_grammar.specs.Phrases.{Program};
+ghost use Rattle.program_grammar.specs.Programs.{Spells};
+ghost use Rattle.program_grammar.specs.Reading.{AreSteps};
+ghost use Rattle.program_grammar.specs.declared.words.Language.TheVariants as Language;
+ghost use Rattle.token_system.specs.Domain.{is_cell};
+ghost use Rattle.token_system.specs.declared.cell.Kind.TheVariants as Kind;
+ghost use Rattle.token_system.specs.declared.cell.Token.TheVariants as Token;
+ghost use Rattle.tdcc_reader.specs.BuildPass.{Subject, asks, asks_waiting, begins, build_pass, built_view, counts_declared, declares, declares_number, declares_signal, ends, leaves_built, leaves_scope, next_cell, next_unit, nothing_built, puts, puts_asked, scoped_view, takes_branch, takes_built, takes_low, takes_name, takes_number, takes_unit, takes_word, waits_for, waits_view, wraps};
+ghost use Rattle.tdcc_reader.specs.Builds.{IsBuilt, IsReady};
+ghost use Rattle.tdcc_reader.specs.Passes.{over_steps};
+ghost use Rattle.tdcc_reader.specs.Surfaces.{cell_of, cell_view, declared_as, number, program_cells, signal, IsSurfaceOf};
+ghost use Rattle.tdcc_reader.specs.TermViews.{term_view};
+ghost use Rattle.tdcc_reader.specs.declared.draft.DraftKind as DraftKind;
+ghost use Rattle.tdcc_reader.specs.declared.fault.ReadFault as ReadFault;
+
+use crate::draft::{Draft, DraftKind, forms};
+use crate::fault::ReadFault;
+use crate::surface::Surface;
+use crate::terms::{Term, term_at};
+use agent_core::{CellDecl, Name};
+use program_grammar::{Part, Step, Word, places_law};
+use std::alloc::{AllocError, Global};
+use std::mem;
+use token_system::{Cell, Kind, Token};
+
+/// The greatest number in a domain; the least one is its negation.
+const MAX_BOUND: i64 = 999_999_999;
+
+/// A name in scope, and the number of its cell.
+#[derive(Clone, Copy, Debug, PartialEq, Eq)]
+struct Scoped<'a> {
+    name: &'a [u8],
+    cell: u32,
+}
+
+/// What a later lexeme completes.
+#[derive(Clone, Copy, Debug, PartialEq, Eq)]
+enum Held<'a> {
+    Nothing,
+    /// The cell of a token.
+    Subject(u32),
+    /// The name of a number.
+    Item(&'a [u8]),
+    /// The name of a number, and its least value.
+    Low(&'a [u8], i64),
+}
+
+/// A program in the making.
+#[derive(Debug, Drop)]
+pub(crate) struct Builder<'a> {
+    pub(crate) drafts: Vec<Draft>,
+    /// The tokens of the constraint at hand.
+    ask: Vec<(u32, Token)>,
+    /// Where the unit at hand of each open agent, `do` and `time` begins.
+    starts: Vec<usize>,
+    scope: Vec<Scoped<'a>>,
+    pub(crate) cells: Vec<CellDecl>,
+    held: Held<'a>,
+    pub(crate) declared: usize,
+}
+
+/// The cell of a signal.
+fn signal_cell() -> Cell
+    ensures { (x : List ℕ) → declared_as x result ≡ signal x }
+{
+    Cell {
+        kind: Kind::Signal,
+        lo: 0,
+        hi: 0,
+    }
+}
+
+/// Whether these are the bounds of a domain.
+fn is_domain(lo: i64, hi: i64) -> bool
+    ensures { result ≡ is_cell Kind.Number lo hi }
+{
+    -MAX_BOUND <= lo && lo <= MAX_BOUND && -MAX_BOUND <= hi && hi <= MAX_BOUND && lo <= hi
+}
+
+/// The cell of a number with this domain.
+fn number_cell(lo: i64, hi: i64) -> Cell
+    ensures { (x : List ℕ) → declared_as x result ≡ number x lo hi }
+{
+    if !is_domain(lo, hi) {
+        return signal_cell();
+    }
+    Cell {
+        kind: Kind::Number,
+        lo,
+        hi,
+    }
+}
+
+/// The cell of a name in scope.
+fn cell_of(scope: &[Scoped<'_>], name: &[u8]) -> u32
+    ensures { result ≡ cell_of (reverse (map scoped_view scope.now)) name.now }
+{
+    let mut left = scope.len();
+    while left > 0 {
+        left -= 1;
+        if scope[left].name == name {
+            return scope[left].cell;
+        }
+    }
+    0
+}
+
+impl<'a> Builder<'a> {
+    fn put(&mut self, alloc: Global, kind: DraftKind) -> Result<(), AllocError>
+        ensures { OnOk result (built_view self.new ≡ puts kind (built_view self.old)) }
+    {
+        self.drafts.push(Draft {
+            kind,
+            ask: Vec::new(alloc),
+        })?;
+        Ok(())
+    }
+
+    fn put_asked(&mut self, alloc: Global, kind: DraftKind) -> Result<(), AllocError>
+        ensures { OnOk result (built_view self.new ≡ puts_asked kind (built_view self.old)) }
+    {
+        let ask = mem::replace(&mut self.ask, Vec::new(alloc));
+        self.drafts.push(Draft { kind, ask })?;
+        Ok(())
+    }
+
+    fn ask(&mut self, cell: u32, token: Token) -> Result<(), AllocError>
+        ensures { OnOk result (built_view self.new ≡ asks cell token (built_view self.old)) }
+    {
+        self.ask.push((cell, token))?;
+        Ok(())
+    }
+
+    /// Asks the token of the cell that waits.
+    fn ask_held(&mut self, token: Token) -> Result<(), AllocError>
+        ensures { OnOk result (built_view self.new ≡ asks_waiting (waits_view self.old.held) (token ∷ []) (built_view self.old)) }
+    {
+        if let Held::Subject(cell) = self.held {
+            self.ask.push((cell, token))?;
+            self.held = Held::Nothing;
+        }
+        Ok(())
+    }
+
+    /// Asks both tokens of the cell that waits.
+    fn ask_exactly(&mut self, number: i64) -> Result<(), AllocError>
+        ensures { OnOk result (built_view self.new ≡ asks_waiting (waits_view self.old.held)
+            (Token.AtLeast number ∷ Token.AtMost number ∷ []) (built_view self.old)) }
+    {
+        if let Held::Subject(cell) = self.held {
+            self.ask.push((cell, Token::AtLeast(number)))?;
+            self.ask.push((cell, Token::AtMost(number)))?;
+            self.held = Held::Nothing;
+        }
+        Ok(())
+    }
+
+    fn begin(&mut self) -> Result<(), AllocError>
+        ensures { OnOk result (built_view self.new ≡ begins (built_view self.old)) }
+    {
+        self.starts.push(self.drafts.len())?;
+        Ok(())
+    }
+
+    fn end(&mut self)
+        ensures { built_view self.new ≡ ends (built_view self.old) }
+    {
+        let _ = self.starts.pop();
+    }
+
+    fn next_unit(&mut self, alloc: Global) -> Result<(), AllocError>
+        ensures { OnOk result (built_view self.new ≡ next_unit (reverse self.old.starts.items) (built_view self.old)) }
+    {
+        if let Some(start) = self.starts.pop() {
+            let end = self.drafts.len();
+            let start = start.min(end);
+            let par = Draft {
+                kind: DraftKind::Par(end + 1 - start),
+                ask: Vec::new(alloc),
+            };
+            self.drafts.insert(start, par)?;
+            self.starts.push(self.drafts.len())?;
+        }
+        Ok(())
+    }
+
+    fn wrap(&mut self, alloc: Global, kind: DraftKind) -> Result<(), AllocError>
+        ensures { OnOk result (built_view self.new ≡ wraps kind (reverse self.old.starts.items) (built_view self.old)) }
+    {
+        if let Some(start) = self.starts.pop() {
+            let start = start.min(self.drafts.len());
+            let ask = mem::replace(&mut self.ask, Vec::new(alloc));
+            self.drafts.insert(start, Draft { kind, ask })?;
+        }
+        Ok(())
+    }
+
+    /// The number of the next cell.
+    fn next_cell(&self) -> u32
+        ensures { result ≡ next_cell (map cell_view self.now.cells.items) }
+    {
+        u32::try_from(self.cells.len()).unwrap_or(u32::MAX)
+    }
+
+    fn declare(&mut self, alloc: Global, name: &'a [u8], cell: Cell) -> Result<(), AllocError>
+        ensures { OnOk result (built_view self.new ≡ declares name.now (declared_as name.now cell) (built_view self.old)) }
+    {
+        let number = self.next_cell();
+        self.scope.push(Scoped { name, cell: number })?;
+        self.cells.push(CellDecl {
+            name: Name::make(name.to_vec(alloc)?),
+            cell,
+        })?;
+        Ok(())
+    }
+
+    fn declare_signal(&mut self, alloc: Global, name: &'a [u8]) -> Result<(), AllocError>
+        ensures { OnOk result (built_view self.new ≡ declares_signal name.now (built_view self.old)) }
+    {
+        self.declare(alloc, name, signal_cell())?;
+        Ok(())
+    }
+
+    fn declare_number(
+        &mut self,
+        alloc: Global,
+        name: &'a [u8],
+        low: i64,
+        high: i64,
+    ) -> Result<(), AllocError>
+        ensures { OnOk result (built_view self.new ≡ declares name.now (number name.now low high) (built_view self.old)) }
+    {
+        self.declare(alloc, name, number_cell(low, high))?;
+        Ok(())
+    }
+
+    fn take_low(&mut self, low: i64)
+        ensures { built_view self.new ≡ takes_low (waits_view self.old.held) low (built_view self.old) }
+    {
+        if let Held::Item(name) = self.held {
+            self.held = Held::Low(name, low);
+        }
+    }
+
+    fn take_high(&mut self, alloc: Global, high: i64) -> Result<(), AllocError>
+        ensures { OnOk result (built_view self.new ≡ declares_number (waits_view self.old.held) high (built_view self.old)) }
+    {
+        if let Held::Low(name, low) = self.held {
+            self.declare_number(alloc, name, low, high)?;
+            self.held = Held::Nothing;
+        }
+        Ok(())
+    }
+
+    fn leave_scope(&mut self)
+        ensures { built_view self.new ≡ leaves_scope (built_view self.old) }
+    {
+        let _ = self.scope.pop();
+    }
+
+    fn hold(&mut self, held: Held<'a>)
+        ensures { built_view self.new ≡ waits_for (waits_view held.entry) (built_view self.old) }
+    {
+        self.held = held;
+    }
+
+    fn hold_subject(&mut self, name: &'a [u8])
+        ensures { built_view self.new ≡ takes_name Part.OneToken name.now (built_view self.old) }
+    {
+        let cell = cell_of(&self.scope, name);
+        self.hold(Held::Subject(cell));
+    }
+
+    fn open_local(&mut self, alloc: Global) -> Result<(), AllocError>
+        ensures { OnOk result (built_view self.new ≡ puts (DraftKind.New (next_cell (map cell_view self.old.cells.items))) (built_view self.old)) }
+    {
+        let cell = self.next_cell();
+        self.put(alloc, DraftKind::New(cell))
+    }
+
+    fn take_name(&mut self, alloc: Global, part: Part, name: &'a [u8]) -> Result<(), AllocError>
+        ensures { OnOk result (built_view self.new ≡ takes_name part name.now (built_view self.old)) }
+    {
+        match part {
+            Part::OneUnit | Part::OneToken => self.hold_subject(name),
+            Part::DeniedName => {
+                let cell = cell_of(&self.scope, name);
+                self.ask(cell, Token::Off)?;
+            }
+            Part::ClashingName => {
+                let cell = cell_of(&self.scope, name);
+                self.ask(cell, Token::Clash)?;
+            }
+            Part::DeclaredName => self.declare_signal(alloc, name)?,
+            Part::LocalName => {
+                self.open_local(alloc)?;
+                self.declare_signal(alloc, name)?;
+            }
+            Part::DeclaredIntName => self.hold(Held::Item(name)),
+            Part::LocalIntName => {
+                self.open_local(alloc)?;
+                self.hold(Held::Item(name));
+            }
+            _ => {}
+        }
+        Ok(())
+    }
+
+    fn take_number(&mut self, alloc: Global, part: Part, number: i64) -> Result<(), AllocError>
+        ensures { OnOk result (built_view self.new ≡ takes_number part number (built_view self.old)) }
+    {
+        match part {
+            Part::LowNumber => {
+                self.take_low(number);
+                Ok(())
+            }
+            Part::HighNumber => self.take_high(alloc, number),
+            Part::LeastNumber => self.ask_held(Token::AtLeast(number)),
+            Part::MostNumber => self.ask_held(Token::AtMost(number)),
+            Part::ExactNumber => self.ask_exactly(number),
+            _ => Ok(()),
+        }
+    }
+
+    fn take_unit(&mut self, alloc: Global, word: Word) -> Result<(), AllocError>
+        ensures { OnOk result (built_view self.new ≡ takes_unit word (built_view self.old)) }
+    {
+        match word {
+            Word::Skip => self.put(alloc, DraftKind::Skip),
+            Word::OpenBrace => self.begin(),
+            Word::Hence => self.put(alloc, DraftKind::Hence),
+            Word::Next => self.put(alloc, DraftKind::Next),
+            Word::Always => self.put(alloc, DraftKind::Always),
+            Word::Do | Word::Time => {
+                self.begin()?;
+                self.begin()
+            }
+            _ => Ok(()),
+        }
+    }
+
+    fn take_branch(&mut self, alloc: Global, word: Word) -> Result<(), AllocError>
+        ensures { OnOk result (built_view self.new ≡ takes_branch word (built_view self.old)) }
+    {
+        match word {
+            Word::Then => self.put_asked(alloc, DraftKind::Then),
+            Word::Else => self.put_asked(alloc, DraftKind::Else),
+            _ => Ok(()),
+        }
+    }
+
+    fn take_word(&mut self, alloc: Global, part: Part, word: Word) -> Result<(), AllocError>
+        ensures { OnOk result (built_view self.new ≡ takes_word part word (built_view self.old)) }
+    {
+        match part {
+            Part::OneUnit => self.take_unit(alloc, word),
+            Part::MoreUnits => self.next_unit(alloc),
+            Part::Branch => self.take_branch(alloc, word),
+            Part::TheDo => self.put_asked(alloc, DraftKind::When),
+            _ => Ok(()),
+        }
+    }
+
+    fn take(&mut self, alloc: Global, part: Part, term: Term<'a>) -> Result<(), AllocError>
+        ensures { OnOk result (built_view self.new ≡ takes_built part (term_view term.entry) (built_view self.old)) }
+    {
+        match term {
+            Term::Name(name) => self.take_name(alloc, part, name),
+            Term::Number(number) => self.take_number(alloc, part, number),
+            Term::Keyword(_) => self.take_word(alloc, part, term.word()),
+            Term::Symbol(_) => self.take_word(alloc, part, term.word()),
+        }
+    }
+
+    fn leave(&mut self, alloc: Global, part: Part) -> Result<(), AllocError>
+        ensures { OnOk result (built_view self.new ≡ leaves_built part (built_view self.old)) }
+    {
+        match part {
+            Part::Declarations => self.declared = self.cells.len(),
+            Part::MoreUnits => self.end(),
+            Part::Bound => self.ask_held(Token::On)?,
+            Part::EndTell => self.put_asked(alloc, DraftKind::Tell)?,
+            Part::EndLocal => self.leave_scope(),
+            Part::EndWatch => self.wrap(alloc, DraftKind::Watch)?,
+            Part::EndTimed => self.wrap(alloc, DraftKind::Time)?,
+            _ => {}
+        }
+        Ok(())
+    }
+}
+
+/// What is built from the steps.
+fn build_steps<'a>(
+    alloc: Global,
+    terms: &[Term<'a>],
+    steps: &[Step],
+) -> Result<Builder<'a>, AllocError>
+    ensures { IfOk result (λ b. built_view b ≡ over_steps build_pass (map term_view terms.now) steps.now nothing_built) }
+{
+    let mut builder = Builder {
+        drafts: Vec::new(alloc),
+        ask: Vec::new(alloc),
+        starts: Vec::new(alloc),
+        scope: Vec::new(alloc),
+        cells: Vec::new(alloc),
+        held: Held::Nothing,
+        declared: 0,
+    };
+    builder.starts.push(0)?;
+    for step in steps {
+        match *step {
+            Step::Took(part, place) => builder.take(alloc, part, term_at(terms, place))?,
+            Step::Left(part) => builder.leave(alloc, part)?,
+        }
+    }
+    Ok(builder)
+}
+
+/// What is built from the program of these terms and steps.
+pub(crate) fn build<'a>(
+    alloc: Global,
+    terms: &[Term<'a>],
+    steps: &[Step],
+) -> Result<Builder<'a>, AllocError>
+    ensures { (p : Program) → Spells Language.Whole p (map term_view terms.now) → AreSteps p steps.now
+        → length (program_cells p) ≤ 4294967295
+        → IfOk result (λ b. IsBuilt p (built_view b)) }
+{
+    places_law();
+    build_steps(alloc, terms, steps)
+}
+
+/// The surface of the program that is built.
+pub(crate) fn finish(alloc: Global, built: Builder<'_>) -> Result<Surface, ReadFault>
+    requires { (text : List ℕ) × (p : Program) × IsReady text p (built_view built) }
+    ensures found { (text : List ℕ) (p : Program) → IsReady text p (built_view built.entry)
+        → IfOk result (IsSurfaceOf p) }
+    ensures fault { IfErr result (λ fault. fault ≡ ReadFault.Memory) }
+{
+    let forms = forms(alloc, &built.drafts)?;
+    Ok(Surface::make(built.cells, built.declared as u32, forms))
+}
