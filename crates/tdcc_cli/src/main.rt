@@ -2,9 +2,20 @@
 //! does all the work.
 #![tactic(auto)]
 
+ghost use Rattle.std.specs.Prelude.{◌≡◌, ℕ, List, IfSome};
+ghost use Rattle.std.specs.Io.KnownBytes.{Appends};
+ghost use Rattle.std.specs.Process.{exit_status};
+ghost use Rattle.tdcc_base.specs.Statuses.{status_number};
+ghost use Rattle.tdcc_base.specs.Written.{Tells};
+ghost use Rattle.tdcc_base.specs.declared.status.Status.{Status as StatusValue};
+ghost use Rattle.tdcc_tool.specs.Answers.{Answers};
+ghost use Rattle.tdcc_tool.specs.Ends.{IsSettled};
+
+use std::alloc::Global;
 use std::process::ExitCode;
+use std::thread::Threads;
 use std::{env, io};
-use tdcc_base::{OpenGate, StdSink, StdSource};
+use tdcc_base::{OpenGate, Sink, Source, StdSink, StdSource};
 use tdcc_tool::tdcc;
 
 /// The words behind the program's name. Where one of them is no text there are none, as no command
@@ -19,19 +30,29 @@ fn words(rt: &HostRuntime) -> io::Result<Vec<String>> {
     }
 }
 
+/// Answers the words and the source, and gives the number of the status as the exit code.
+fn answered<R: Threads + Sync, S: Source, K: Sink, E: Sink>(
+    rt: &R,
+    alloc: Global,
+    words: &[String],
+    source: &mut S,
+    out: &mut K,
+    err: &mut E,
+) -> ExitCode
+    // The code is a status, and where nothing cut the call short that of the defined answer.
+    ensures { (s : StatusValue) × (exit_status result ≡ status_number s) × (IsSettled s → IfSome (S.left source.old) (λ bytes. (o e : List ℕ) ×
+        Answers words.now bytes s o e
+        × Appends (K.written out.old) (K.written out.new) o
+        × Tells (E.written err.old) (E.written err.new) (E.faults err.old) (E.faults err.new) e)) }
+{
+    let status = tdcc(rt, alloc, words, source, out, err, &OpenGate);
+    ExitCode::from(status.number())
+}
+
 fn main(rt: HostRuntime) -> io::Result<ExitCode> {
     let words = words(&rt)?;
     let mut source = StdSource::new(rt.stdin());
     let mut out = StdSink::new(rt.stdout());
     let mut err = StdSink::new(rt.stderr());
-    let status = tdcc(
-        &rt,
-        rt.alloc(),
-        &words,
-        &mut source,
-        &mut out,
-        &mut err,
-        &OpenGate,
-    );
-    Ok(ExitCode::from(status.number()))
+    Ok(answered(&rt, rt.alloc(), &words, &mut source, &mut out, &mut err))
 }
