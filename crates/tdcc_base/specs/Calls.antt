@@ -1,11 +1,15 @@
 -- The numbered calls of a device in memory. This project's own.
-use Rattle.std.specs.Prelude.{◌≡◌, ℕ, List, Contains, Result}
+use Rattle.std.specs.Prelude.{◌≡◌, ℕ, ◌==◌, Bool, List, Contains, length, Result}
 use Rattle.tdcc_base.specs.Causes.{next_count, CountsFault}
 use Rattle.tdcc_base.specs.declared.calls.Calls.{Calls}
 
 -- the numbers of the calls that fail
 abbrev pub listed : Calls → List ℕ
 listed calls = calls.fails.items
+
+-- whether no call is listed to fail
+abbrev pub lists_none : Calls → Bool
+lists_none calls = length (listed calls) == 0
 
 -- the number of the next call
 abbrev pub number : Calls → ℕ

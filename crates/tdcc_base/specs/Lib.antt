@@ -1,4 +1,5 @@
 pub mod Causes
+pub mod Promises
 pub mod Written
 pub mod Calls
 pub mod Pieces

@@ -1,7 +1,8 @@
 -- What a sink in memory holds, and what it takes. This project's own.
-use Rattle.std.specs.Prelude.{◌≡◌, ℕ, ◌-◌, min, List, length}
+use Rattle.std.specs.Prelude.{◌≡◌, ℕ, ◌-◌, min, if◌then◌else◌, List, length, Option, Some, None}
 use Rattle.tdcc_base.specs.declared.memory_sink.MemSink.{MemSink}
 use Rattle.tdcc_base.specs.declared.calls.Calls.{Calls}
+use Rattle.tdcc_base.specs.Calls.{lists_none}
 
 -- what the sink has taken
 abbrev pub held : MemSink → List ℕ
@@ -22,6 +23,10 @@ free_room sink = room_of sink - length (held sink)
 -- the sink's calls
 abbrev pub sink_calls : MemSink → Calls
 sink_calls sink = sink.calls
+
+-- the room that is left, where no call is listed to fail
+abbrev pub sure_room : MemSink → Option ℕ
+sure_room sink = if lists_none (sink_calls sink) then Some (free_room sink) else None
 
 -- how many of so many bytes the sink takes in one write
 abbrev pub taken_of : MemSink → ℕ → ℕ

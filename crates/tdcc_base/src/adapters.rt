@@ -1,7 +1,8 @@
-ghost use Rattle.std.specs.Prelude.{◌≡◌, ◌<◌, ◌≤◌, IfOk, length};
+ghost use Rattle.std.specs.Prelude.{◌≡◌, ◌<◌, ◌≤◌, false, None, IfOk, IsErr, length};
 ghost use Rattle.std.specs.Io.{ReadsAtMost};
 ghost use Rattle.std.specs.Io.KnownBytes.{ReadConsumes, WriteAppends};
 ghost use Rattle.tdcc_base.specs.Causes.{HasCause, CountsFault};
+ghost use Rattle.tdcc_base.specs.Promises.{StaysSteady, TakesWithin};
 
 use crate::outside::{Failed, Sink, Source};
 use std::io::{Read, Write};
@@ -28,12 +29,15 @@ impl<R: Read> Source for StdSource<R> {
 
     ghost faults = { λ s. s.faults };
 
+    ghost steady = { λ _. false };
+
     /// Reads as the reader does. Each error of the reader is counted.
     fn read(&mut self, into: &mut [u8]) -> Result<usize, Failed>
         requires { 0 < length into.old }
         ensures bound { ReadsAtMost result into.new }
         ensures bytes { ReadConsumes (R.remaining self.old.reader) (R.remaining self.new.reader) result into.new }
         ensures cause { HasCause self.old.faults self.new.faults result }
+        ensures steady { StaysSteady false false (IsErr result) }
         ensures counts { CountsFault self.old.faults self.new.faults result }
     {
         match self.reader.read(into) {
@@ -69,6 +73,8 @@ impl<W: Write> Sink for StdSink<W> {
 
     ghost faults = { λ s. s.faults };
 
+    ghost room = { λ _. None };
+
     /// Writes as the writer does. Each error of the writer is counted, and each write that took nothing.
     fn write(&mut self, from: &[u8]) -> Result<usize, Failed>
         requires { 0 < length from.now }
@@ -76,6 +82,7 @@ impl<W: Write> Sink for StdSink<W> {
         ensures bound { IfOk result (λ n. n ≤ length from.now) }
         ensures bytes { WriteAppends (W.contents self.old.writer) (W.contents self.new.writer) result from.now }
         ensures cause { HasCause self.old.faults self.new.faults result }
+        ensures promise { TakesWithin None None result }
         ensures counts { CountsFault self.old.faults self.new.faults result }
     {
         match self.writer.write(from) {

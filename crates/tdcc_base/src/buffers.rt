@@ -1,6 +1,7 @@
 ghost use Rattle.std.specs.Prelude.{◌≡◌, ◌≤◌, Ok, Err, Some, IfOk, IfSome, IsNone, IsErrOf, [], length, drop, vec_len, vec_capacity};
 ghost use Rattle.std.specs.Result.{result_err};
 ghost use Rattle.tdcc_base.specs.Causes.{Rose};
+ghost use Rattle.tdcc_base.specs.Promises.{StaysSteady};
 ghost use Rattle.tdcc_base.specs.Texts.{is_mark};
 
 use crate::outside::{Memory, Source};
@@ -73,6 +74,7 @@ impl Buffers {
         ensures over { IsNone self.old.stop → IsOver self.old.ahead → (result ≡ Ok LineEnd.End) × IsOver self.new.ahead }
         ensures later { S.faults source.old ≤ S.faults source.new }
         ensures read { IsNone self.old.stop → IsErrOf result ReadStop.Read → Rose (S.faults source.old) (S.faults source.new) }
+        ensures steady { IsNone self.old.stop → StaysSteady (S.steady source.old) (S.steady source.new) (IsErrOf result ReadStop.Read) }
         ensures short { IfOk result (λ _. vec_len self.new.line ≤ 32768) }
         ensures text { self.new.text ≡ self.old.text }
     {
@@ -104,6 +106,7 @@ impl Buffers {
         ensures short { IfOk result (λ _. vec_len self.new.text ≤ 65536) }
         ensures later { S.faults source.old ≤ S.faults source.new }
         ensures read { IsErrOf result ReadStop.Read → Rose (S.faults source.old) (S.faults source.new) }
+        ensures steady { StaysSteady (S.steady source.old) (S.steady source.new) (IsErrOf result ReadStop.Read) }
     {
         let result = self.finish_text(source);
         if let Err(stop) = result {
@@ -124,6 +127,7 @@ impl Buffers {
         ensures short { IfOk result (λ _. vec_len self.new.text ≤ 65536) }
         ensures later { S.faults source.old ≤ S.faults source.new }
         ensures read { IsErrOf result ReadStop.Read → Rose (S.faults source.old) (S.faults source.new) }
+        ensures steady { StaysSteady (S.steady source.old) (S.steady source.new) (IsErrOf result ReadStop.Read) }
         ensures stop { self.new.stop ≡ self.old.stop }
     {
         'lines: loop {

@@ -1,6 +1,7 @@
 ghost use Rattle.std.specs.Prelude.{◌≡◌, ◌≤◌, Ok, Err, IfOk, IfSome, IsNone, IsErrOf, length};
 ghost use Rattle.std.specs.Result.{result_err};
 ghost use Rattle.tdcc_base.specs.Causes.{Rose};
+ghost use Rattle.tdcc_base.specs.Promises.{StaysSteady};
 
 use crate::buffers::Buffers;
 use crate::outside::{Memory, Source};
@@ -72,6 +73,9 @@ impl<'a, S: Source> Lines<'a, S> {
         ensures read { IsErrOf result ReadStop.Read → Rose (S.faults (source_of self.old)) (S.faults (source_of self.new)) }
         ensures read_before_end { IsErrOf result ReadStop.Read → HasNotEnded self.new }
         ensures read_all { IsErrOf result ReadStop.Read → HoldsNothingBack S.left self.new }
+
+        // What a steady source is sure of.
+        ensures steady { StaysSteady (S.steady (source_of self.old)) (S.steady (source_of self.new)) (IsErrOf result ReadStop.Read) }
     {
         self.buffers.read_text(self.source)
     }
@@ -105,6 +109,9 @@ impl<'a, S: Source> Lines<'a, S> {
         ensures read { IsNone (stop_of self.old) → IsErrOf result ReadStop.Read → Rose (S.faults (source_of self.old)) (S.faults (source_of self.new)) }
         ensures read_before_end { IsNone (stop_of self.old) → IsErrOf result ReadStop.Read → HasNotEnded self.new }
         ensures read_all { IsNone (stop_of self.old) → IsErrOf result ReadStop.Read → HoldsNothingBack S.left self.new }
+
+        // What a steady source is sure of.
+        ensures steady { IsNone (stop_of self.old) → StaysSteady (S.steady (source_of self.old)) (S.steady (source_of self.new)) (IsErrOf result ReadStop.Read) }
     {
         self.buffers.read_line(self.source)
     }

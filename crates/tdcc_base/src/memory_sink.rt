@@ -1,6 +1,7 @@
 ghost use Rattle.std.specs.Prelude.{◌≡◌, ◌<◌, ◌≤◌, ◌↔◌, ◌⊎◌, Some, IfOk, IsErr, [], length, vec_len, vec_capacity};
 ghost use Rattle.std.specs.Io.KnownBytes.{WriteAppends};
 ghost use Rattle.tdcc_base.specs.Causes.{HasCause};
+ghost use Rattle.tdcc_base.specs.Promises.{TakesWithin};
 
 use crate::calls::Calls;
 use crate::outside::{Failed, Memory, Sink};
@@ -34,6 +35,7 @@ impl MemSink {
         ensures bytes { IfOk result (λ sink. ⟦<MemSink as Sink>⟧.written sink ≡ Some []) }
         ensures calls { IfOk result (λ sink. AreNew (sink_calls sink) fails.items) }
         ensures faults { IfOk result (λ sink. ⟦<MemSink as Sink>⟧.faults sink ≡ 0) }
+        ensures promise { IfOk result (λ sink. fails.items ≡ [] → ⟦<MemSink as Sink>⟧.room sink ≡ Some room) }
     {
         let bytes = Vec::with_capacity(alloc, room)?;
         Ok(MemSink {
@@ -55,11 +57,13 @@ impl MemSink {
 
 impl Sink for MemSink {
     ghost use Rattle.tdcc_base.specs.Calls.{IsListed, Counted};
-    ghost use Rattle.tdcc_base.specs.Rooms.{held, free_room, taken_of, sink_calls, SameRoom};
+    ghost use Rattle.tdcc_base.specs.Rooms.{held, free_room, sure_room, taken_of, sink_calls, SameRoom};
 
     ghost written = { λ s. Some (held s) };
 
     ghost faults = { λ s. (sink_calls s).faults };
+
+    ghost room = { sure_room };
 
     /// Takes as many bytes as `from` has, the room that is left allows, and one write may take.
     ///
@@ -71,6 +75,7 @@ impl Sink for MemSink {
         ensures bound { IfOk result (λ n. n ≤ length from.now) }
         ensures bytes { WriteAppends (Some (held self.old)) (Some (held self.new)) result from.now }
         ensures cause { HasCause (sink_calls self.old).faults (sink_calls self.new).faults result }
+        ensures promise { TakesWithin (sure_room self.old) (sure_room self.new) result }
         ensures fails { IsErr result ↔ (IsListed (sink_calls self.old) ⊎ (free_room self.old ≡ 0)) }
         ensures counts { Counted (sink_calls self.old) (sink_calls self.new) result }
         ensures takes { IfOk result (λ n. n ≡ taken_of self.old (length from.now)) }

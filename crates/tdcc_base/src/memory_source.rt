@@ -1,8 +1,9 @@
-ghost use Rattle.std.specs.Prelude.{◌≡◌, ◌<◌, ◌≤◌, ◌↔◌, Some, IfOk, OnErr, IsErr, length, vec_len};
+ghost use Rattle.std.specs.Prelude.{◌≡◌, ◌<◌, ◌≤◌, ◌↔◌, Some, IfOk, OnErr, IsErr, IsTrue, [], length, vec_len};
 ghost use Rattle.std.specs.List.{concat};
 ghost use Rattle.std.specs.Io.{ReadsAtMost};
 ghost use Rattle.std.specs.Io.KnownBytes.{ReadConsumes};
 ghost use Rattle.tdcc_base.specs.Causes.{HasCause};
+ghost use Rattle.tdcc_base.specs.Promises.{StaysSteady};
 
 use crate::calls::Calls;
 use crate::outside::{Failed, Source};
@@ -27,6 +28,7 @@ impl MemSource {
         ensures bytes { ⟦<MemSource as Source>⟧.left result ≡ Some (concat (bytes_of pieces.items)) }
         ensures calls { AreNew (source_calls result) fails.items }
         ensures faults { ⟦<MemSource as Source>⟧.faults result ≡ 0 }
+        ensures steady { IsTrue (⟦<MemSource as Source>⟧.steady result) ↔ (fails.items ≡ []) }
     {
         MemSource {
             pieces,
@@ -53,12 +55,14 @@ impl MemSource {
 }
 
 impl Source for MemSource {
-    ghost use Rattle.tdcc_base.specs.Calls.{IsListed, Counted};
+    ghost use Rattle.tdcc_base.specs.Calls.{lists_none, IsListed, Counted};
     ghost use Rattle.tdcc_base.specs.Pieces.{pieces_left, source_calls, GivesOf};
 
     ghost left = { λ s. Some (concat (pieces_left s)) };
 
     ghost faults = { λ s. (source_calls s).faults };
+
+    ghost steady = { λ s. lists_none (source_calls s) };
 
     /// Reads bytes of the first piece that has some left, as many as `into` has room for.
     fn read(&mut self, into: &mut [u8]) -> Result<usize, Failed>
@@ -66,6 +70,7 @@ impl Source for MemSource {
         ensures bound { ReadsAtMost result into.new }
         ensures bytes { ReadConsumes (Some (concat (pieces_left self.old))) (Some (concat (pieces_left self.new))) result into.new }
         ensures cause { HasCause (source_calls self.old).faults (source_calls self.new).faults result }
+        ensures steady { StaysSteady (lists_none (source_calls self.old)) (lists_none (source_calls self.new)) (IsErr result) }
         ensures fails { IsErr result ↔ IsListed (source_calls self.old) }
         ensures counts { Counted (source_calls self.old) (source_calls self.new) result }
         ensures gives { IfOk result (λ n. GivesOf (pieces_left self.old) (pieces_left self.new) (length into.new) n) }

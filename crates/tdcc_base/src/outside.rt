@@ -1,7 +1,8 @@
-ghost use Rattle.std.specs.Prelude.{◌<◌, ◌≤◌, List, ℕ, Option, IfOk, length};
+ghost use Rattle.std.specs.Prelude.{◌<◌, ◌≤◌, Bool, List, ℕ, Option, IfOk, IsErr, length};
 ghost use Rattle.std.specs.Io.{ReadsAtMost};
 ghost use Rattle.std.specs.Io.KnownBytes.{ReadConsumes, WriteAppends};
 ghost use Rattle.tdcc_base.specs.Causes.{HasCause};
+ghost use Rattle.tdcc_base.specs.Promises.{StaysSteady, TakesWithin};
 
 use std::alloc::AllocError;
 
@@ -20,6 +21,10 @@ pub trait Source {
     /// How often the source has failed. The count never falls, and stops at the greatest `u64`.
     ghost faults: { Self → ℕ };
 
+    /// Whether the source is sure to refuse no call from now on. One that promises nothing says `false`:
+    /// it may still refuse none.
+    ghost steady: { Self → Bool };
+
     /// Reads some of the bytes that are left into the front of `into`, and answers how many.
     /// `Ok(0)` is the end of the bytes.
     ///
@@ -29,7 +34,8 @@ pub trait Source {
         requires { 0 < length into.old }
         ensures bound { ReadsAtMost result into.new }
         ensures bytes { ReadConsumes (left self.old) (left self.new) result into.new }
-        ensures cause { HasCause (faults self.old) (faults self.new) result };
+        ensures cause { HasCause (faults self.old) (faults self.new) result }
+        ensures steady { StaysSteady (steady self.old) (steady self.new) (IsErr result) };
 }
 
 /// Where bytes go.
@@ -40,6 +46,10 @@ pub trait Sink {
     /// How often the sink has failed. The count never falls, and stops at the greatest `u64`.
     ghost faults: { Self → ℕ };
 
+    /// How many more bytes the sink is sure to take, or `None` where it promises nothing. With `Some 0`
+    /// it promises nothing of the next write either.
+    ghost room: { Self → Option ℕ };
+
     /// Takes some bytes of the front of `from`, at least one, and answers how many.
     ///
     /// # Errors
@@ -49,5 +59,6 @@ pub trait Sink {
         ensures some { IfOk result (λ n. 0 < n) }
         ensures bound { IfOk result (λ n. n ≤ length from.now) }
         ensures bytes { WriteAppends (written self.old) (written self.new) result from.now }
-        ensures cause { HasCause (faults self.old) (faults self.new) result };
+        ensures cause { HasCause (faults self.old) (faults self.new) result }
+        ensures promise { TakesWithin (room self.old) (room self.new) result };
 }

@@ -1,7 +1,8 @@
-ghost use Rattle.std.specs.Prelude.{◌≡◌, ◌<◌, ◌≤◌, false, IfOk, OnErr, IsErrOf, [], ◌∷◌, ◌++◌, vec_len, vec_capacity};
+ghost use Rattle.std.specs.Prelude.{◌≡◌, ◌<◌, ◌≤◌, false, IfOk, OnErr, IsErr, IsErrOf, [], ◌∷◌, ◌++◌, vec_len, vec_capacity};
 ghost use Rattle.std.specs.Bool.{MatchBool};
 ghost use Rattle.std.specs.Io.KnownBytes.{Keeps, IsAtEnd};
 ghost use Rattle.tdcc_base.specs.Causes.{HasCause, Rose};
+ghost use Rattle.tdcc_base.specs.Promises.{StaysSteady};
 
 use crate::outside::{Failed, Memory, Source};
 use crate::stops::ReadStop;
@@ -55,6 +56,7 @@ impl ReadAhead {
         ensures stays { StaysEnded self.old self.new source.old source.new }
         ensures over { IsOver self.old → (result ≡ Ok false) × (self.new ≡ self.old) }
         ensures cause { HasCause (S.faults source.old) (S.faults source.new) result }
+        ensures steady { StaysSteady (S.steady source.old) (S.steady source.new) (IsErr result) }
     {
         if self.from < self.to {
             return Ok(true);
@@ -81,6 +83,7 @@ impl ReadAhead {
         ensures stays { StaysEnded self.old self.new source.old source.new }
         ensures over { IsOver self.old → (result ≡ Ok None) × (self.new ≡ self.old) }
         ensures cause { HasCause (S.faults source.old) (S.faults source.new) result }
+        ensures steady { StaysSteady (S.steady source.old) (S.steady source.new) (IsErr result) }
     {
         let more = self.fill(source)?;
         if more {
@@ -112,6 +115,7 @@ impl ReadAhead {
         ensures over { IsOver self.old → (result ≡ Ok LineBreak.End) × (self.new ≡ self.old) × (into.new.items ≡ into.old.items) }
         ensures later { S.faults source.old ≤ S.faults source.new }
         ensures read { IsErrOf result ReadStop.Read → Rose (S.faults source.old) (S.faults source.new) }
+        ensures steady { StaysSteady (S.steady source.old) (S.steady source.new) (IsErrOf result ReadStop.Read) }
     {
         'bytes: loop {
             match self.next(source) {

@@ -1,6 +1,7 @@
-ghost use Rattle.std.specs.Prelude.{OnOk, OnErr};
+ghost use Rattle.std.specs.Prelude.{OnOk, OnErr, length};
 ghost use Rattle.std.specs.Io.KnownBytes.{Appends};
 ghost use Rattle.tdcc_base.specs.Causes.{HasCause};
+ghost use Rattle.tdcc_base.specs.Promises.{TakesAllWithin};
 ghost use Rattle.tdcc_base.specs.Written.{AppendsPart};
 
 use crate::outside::{Failed, Sink};
@@ -13,6 +14,7 @@ pub fn write_all<K: Sink>(sink: &mut K, bytes: &[u8]) -> Result<(), Failed>
     ensures ok { OnOk result (Appends (K.written sink.old) (K.written sink.new) bytes.now) }
     ensures part { OnErr result (AppendsPart (K.written sink.old) (K.written sink.new) bytes.now) }
     ensures cause { HasCause (K.faults sink.old) (K.faults sink.new) result }
+    ensures roomy { TakesAllWithin (K.room sink.old) (K.room sink.new) (length bytes.now) result }
 {
     let mut done = 0;
     while done < bytes.len() {
