@@ -5,3 +5,4 @@ pub mod Splits
 pub mod WholeLines
 pub mod TextEnds
 pub mod PieceSteps
+pub mod SureRooms

@@ -1,4 +1,5 @@
 use Rattle.std.proofs.Common.{◌≡◌, ◌≤◌, ◌-◌, length}
+use Rattle.std.specs.Prelude.{IsTrue}
 use Rattle.std.specs.Io.KnownBytes.{Consumes}
 use Rattle.tdcc_base.specs.Unread.{unread, IsReady, StaysEnded}
 use Rattle.tdcc_base.proofs.TextEnds.{IsTextFront}
@@ -12,6 +13,7 @@ invariant-lines g l = record {
   few : length l.self.text.items ≤ 65536;
   stays : StaysEnded l.fn.self.ahead l.self.ahead l.fn.source l.source;
   later : g.S.Source.faults l.fn.source ≤ g.S.Source.faults l.source;
+  steady : IsTrue (g.S.Source.steady l.fn.source) → IsTrue (g.S.Source.steady l.source);
   stop : l.self.stop ≡ l.fn.self.stop;
 }
 

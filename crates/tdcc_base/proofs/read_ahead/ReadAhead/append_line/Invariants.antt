@@ -1,5 +1,5 @@
 use Rattle.std.proofs.Common.{◌≡◌, ◌≤◌, ◌-◌}
-use Rattle.std.specs.Prelude.{vec_len, vec_capacity}
+use Rattle.std.specs.Prelude.{vec_len, vec_capacity, IsTrue}
 use Rattle.tdcc_base.specs.Unread.{unread, IsReady, IsOver, StaysEnded}
 use Rattle.tdcc_base.proofs.LineSteps.{TakesFront}
 use Rattle.tdcc_base.proofs.read_ahead.ReadAhead.append_line.Given as goal
@@ -13,6 +13,7 @@ invariant-bytes g l = record {
   stays : StaysEnded l.fn.self l.self l.fn.source l.source;
   over : IsOver l.fn.self → (l.self ≡ l.fn.self) × (l.into.items ≡ l.fn.into.items);
   later : g.S.Source.faults l.fn.source ≤ g.S.Source.faults l.source;
+  steady : IsTrue (g.S.Source.steady l.fn.source) → IsTrue (g.S.Source.steady l.source);
 }
 
 abbrev pub decreases-bytes : goal.decreases-bytes
