@@ -1,16 +1,19 @@
-ghost use Rattle.std.specs.Prelude.{◌<◌};
+ghost use Rattle.std.specs.Prelude.{◌<◌, IfOk, IsTrue};
 
 use crate::{
     Acted, Failed, Gate, LineEnd, Lines, MemSink, MemSource, Memory, OpenGate, ReadStop, Sink,
     Source, Status, StdSink, StdSource, TextEnd, write_all,
 };
 use std::alloc::Global;
+use std::io;
+use std::io::Read;
 use std::process::Abort;
 use std::test::Fail;
 
 /// A source that gives the bytes in pieces of `size` bytes.
 fn source_of(alloc: Global, bytes: &[u8], size: usize) -> Result<MemSource, Memory>
     requires { 0 < size }
+    ensures { IfOk result (λ source. IsTrue (⟦<MemSource as Source>⟧.steady source)) }
 {
     let mut pieces = Vec::new(alloc);
     for piece in bytes.chunks(size) {
@@ -190,6 +193,19 @@ fn all_is_written_up_to_a_fault(rt: HostRuntime) -> Result<(), Fail> {
     Ok(())
 }
 
+#[test]
+fn what_is_promised_beforehand_cannot_fail(rt: HostRuntime) -> Result<(), Fail> {
+    let alloc = rt.alloc();
+    let mut sink = MemSink::new(alloc, 5, 2, Vec::new(alloc))?;
+    let written = write_all(&mut sink, b"abcde");
+    prove!(written.is_ok());
+    let mut source = source_of(alloc, b"%%", 1)?;
+    let mut lines = Lines::new(alloc, &mut source)?;
+    let end = lines.read_text();
+    prove!(!matches!(end, Err(ReadStop::Read)));
+    Ok(())
+}
+
 /// Reads up to four bytes.
 fn read_four<S: Source>(source: &mut S) -> (Result<usize, Failed>, [u8; 4]) {
     let mut into = [0; 4];
@@ -197,11 +213,34 @@ fn read_four<S: Source>(source: &mut S) -> (Result<usize, Failed>, [u8; 4]) {
     (result, into)
 }
 
+/// A reader that fails at every second read.
+#[derive(Drop)]
+struct FailsInTurn {
+    bytes: &'static [u8],
+    fails: bool,
+}
+
+impl Read for FailsInTurn {
+    fn read(&mut self, into: &mut [u8]) -> io::Result<usize> {
+        let fails = self.fails;
+        self.fails = !fails;
+        if fails {
+            return Err(io::ErrorKind::Other.into());
+        }
+        self.bytes.read(into)
+    }
+}
+
 #[test]
-fn a_reader_of_std_is_a_source(rt: HostRuntime) {
-    let mut source = StdSource::new(b"abcdef".as_slice());
+fn a_reader_of_std_is_a_source_that_fails_where_it_does(rt: HostRuntime) {
+    let mut source = StdSource::new(FailsInTurn {
+        bytes: b"abcdef",
+        fails: false,
+    });
     assert_eq!(rt; read_four(&mut source), (Ok(4), *b"abcd"));
+    assert_eq!(rt; read_four(&mut source), (Err(Failed), [0; 4]));
     assert_eq!(rt; read_four(&mut source), (Ok(2), *b"ef\0\0"));
+    assert_eq!(rt; read_four(&mut source), (Err(Failed), [0; 4]));
     assert_eq!(rt; read_four(&mut source), (Ok(0), [0; 4]));
 }
 
