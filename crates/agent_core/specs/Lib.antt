@@ -10,4 +10,8 @@ pub mod Stores
 pub mod Rests
 pub mod Observed
 pub mod Outputs
+pub mod Closures
+pub mod Leaves
+pub mod Strata
+pub mod RootOutputs
 pub mod Worked
