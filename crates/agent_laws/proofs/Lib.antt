@@ -1,0 +1,11 @@
+pub mod Eachs
+pub mod System
+pub mod Fixpoint
+pub mod Settling
+pub mod LeafLevels
+pub mod Floors
+pub mod Instance
+pub mod Flattened
+pub mod NodeFloors
+pub mod Started
+pub mod ClosureOutputs

@@ -1,0 +1,3 @@
+pub mod LeafRests
+pub mod NextRoots
+pub mod Laws

@@ -1,0 +1,8 @@
+//! Laws of what programs of Timed Default cc mean: where they have one output and one run, and what
+//! the leaves and the roots of an instant have to do with it. Nothing here is to be run; the laws
+//! stand on the contracts.
+#![tactic(auto)]
+
+mod laws;
+
+pub use laws::{by_leaves_law, one_output_law};
