@@ -4,8 +4,13 @@ pub mod Fixpoint
 pub mod Settling
 pub mod LeafLevels
 pub mod Floors
+pub mod NodeFloors
 pub mod Instance
 pub mod Flattened
-pub mod NodeFloors
+pub mod Sorting
 pub mod Started
 pub mod ClosureOutputs
+pub mod RootRests
+pub mod ProgramOutputs
+pub mod Runs
+pub mod NextRoots

@@ -1,7 +1,5 @@
 -- What is started at an instant are closures of the program.
 use Rattle.std.proofs.Common.{◌≡◌, ℕ, suc, ◌+◌, ◌-◌, List, [], ◌∷◌, ◌++◌, length, refl, sym, ◌∙◌, arith, length-append}
-use Rattle.std.specs.declared.cmp.Ordering.{Ordering}
-use Rattle.std.specs.declared.cmp.Ordering.TheVariants.{Less, Equal, Greater}
 use Rattle.token_system.specs.Stores.{Valuation}
 use Rattle.agent_core.specs.declared.node.Closure.{Closure}
 use Rattle.agent_core.specs.Agents.{Agent, Skip, Tell, Then, Else, Par, New, Hence, Next, agent_at}
@@ -11,23 +9,11 @@ use Rattle.agent_core.specs.Facts.{IsProgram}
 use Rattle.agent_core.specs.Names.{IsClosure}
 use Rattle.agent_core.specs.Rests.{entails}
 use Rattle.agent_core.specs.Observed.{suffixes}
-use Rattle.agent_core.specs.Closures.{closure_cmp, put_by, put, sorted, started, roots}
+use Rattle.agent_core.specs.Closures.{started, roots}
 use Rattle.agent_core.specs.Strata.{Each}
 use Rattle.agent_core.proofs.Places.{Place, Place-goes_down, root_place, depth_of-place, size-within}
 use Rattle.agent_laws.proofs.Eachs.{Each-append, Each-flat, Each-if}
-
-each_put : (P : Closure → Type 0) (r : Closure) (rs : List Closure) → P r → Each P rs → Each P (put r rs)
-each_put P r [] h g = (h, tt)
-each_put P r (first ∷ rest) h g = go (closure_cmp r first) (each_put P r rest h g.1)
-  where
-    go : (o : Ordering) → Each P (put r rest) → Each P (put_by o r first rest (put r rest))
-    go Less m = (h, g)
-    go Equal m = g
-    go Greater m = (g.0, m)
-
-pub each_sorted : (P : Closure → Type 0) (rs : List Closure) → Each P rs → Each P (sorted rs)
-each_sorted P [] h = tt
-each_sorted P (r ∷ rs) h = each_put P r (sorted rs) h.0 (each_sorted P rs h.1)
+use Rattle.agent_laws.proofs.Sorting.{each_sorted}
 
 module _ (p : CoreProgram) where
   abbrev pub IsOwn : Closure → Type 0

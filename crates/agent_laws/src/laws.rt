@@ -1,4 +1,4 @@
-ghost use Rattle.agent_laws.specs.Laws.{RestsByLeaves, RootsHaveOneOutput};
+ghost use Rattle.agent_laws.specs.Laws.{NextRootsFollow, ProgramHasOneOutput, ProgramHasOneRun, RestsByLeaves, RestsByRoots, RootsAreClosures, RootsHaveOneOutput, StartsAtRoot};
 
 /// Closures of a program that a table stratifies have exactly one output on each input, at whatever
 /// instant they are started.
@@ -11,4 +11,25 @@ pub fn one_output_law()
 /// if the then asks above it are.
 pub fn by_leaves_law()
     ensures { RestsByLeaves }
+{}
+
+/// After closed stores a program rests exactly where the roots of the instant do, stratified or not.
+/// The roots are closures of the program, and at the first instant the root alone.
+pub fn by_roots_law()
+    ensures rests { RestsByRoots }
+    ensures closures { RootsAreClosures }
+    ensures first { StartsAtRoot }
+{}
+
+/// A program that a table stratifies has exactly one output on each input, after whatever closed
+/// stores, and exactly one run on each list of inputs.
+pub fn one_run_law()
+    ensures output { ProgramHasOneOutput }
+    ensures run { ProgramHasOneRun }
+{}
+
+/// The roots after one more closed store are those that stay, since a hence started them, and those
+/// that the leaves start which the store runs.
+pub fn next_roots_law()
+    ensures { NextRootsFollow }
 {}
