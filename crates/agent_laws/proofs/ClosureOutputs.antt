@@ -17,6 +17,7 @@ use Rattle.agent_core.specs.RootOutputs.{roots_rest, IsOutputOf}
 use Rattle.agent_core.proofs.Scopes.{closure_fits}
 use Rattle.agent_core.proofs.Tellings.{Below-refl}
 use Rattle.agent_laws.specs.LeafRests.{path_rests, leaf_rests}
+use Rattle.agent_laws.specs.Ways.{AreBelow}
 use Rattle.agent_laws.proofs.Eachs.{Each-map, Each-both, Each-append, each_true, true_each}
 use Rattle.agent_laws.proofs.System.{System}
 use Rattle.agent_laws.proofs.Fixpoint as flat
@@ -66,30 +67,16 @@ path_test true a b x y h = go a b x y (h refl)
     go true true true y h = h.1 refl
     go true true false y h = h.0 refl
 
--- a number above each of the table's
-abbrev pub above_all : List ℕ → ℕ
-above_all [] = 1
-above_all (x ∷ xs) = suc x + above_all xs
-
-pub table-low : (table : List ℕ) (c : ℕ) → slice_index table c < above_all table
-table-low [] c = omega arith
-table-low (x ∷ table) zero = omega arith
-table-low (x ∷ table) (suc c) = let h = table-low table c in omega arith
-
--- THE SYSTEM OF THE LEAVES
-
--- the stores of the program, with the leaves that are stratified
-abbrev pub leaf_system : (p : CoreProgram) (table : List ℕ) → IsProgram p → System
-leaf_system p table is = system p table (above_all table) (table-low table) is
+-- CLOSURES AND THEIR LEAVES
 
 -- where u is below v, closures rest exactly where their leaves do
 pub closures_leaves : (p : CoreProgram) → IsProgram p → (rs : List Closure) → Each (IsOwn p) rs → (t : ℕ) (u v : Valuation) → Below p u v
     → roots_rest p rs t u v ≡ list_all (leaf_rests p u v) (leaves p rs t)
 closures_leaves p is rs own t u v below = sym (roots_leaves p t u v below rs (Each-map (IsOwn p) (ClosureFits p t u v below) (λ r h. closure_fits p is r.node r.births h t) rs own))
 
-module _ (p : CoreProgram) (table : List ℕ) (is : IsProgram p) (strat : Stratifies p table) (rs : List Closure) (own : Each (IsOwn p) rs) (t : ℕ) where
+module _ (p : CoreProgram) (table : List ℕ) (s : ℕ) (low : AreBelow p table s) (is : IsProgram p) (strat : Stratifies p table) (rs : List Closure) (own : Each (IsOwn p) rs) (t : ℕ) where
   abbrev sys : System
-  sys = leaf_system p table is
+  sys = system p table s low is
 
   -- each leaf is one of the system
   pub leaves-fit : Each (LeafFits p table) (leaves p rs t)
@@ -112,10 +99,10 @@ module _ (p : CoreProgram) (table : List ℕ) (is : IsProgram p) (strat : Strati
 
   -- a store is below another where it is so stratum by stratum
   abbrev pub by_strata : (u w : Valuation) → Below p u w → (k : ℕ) → sys.Upto k u w
-  by_strata = of_below p table (above_all table) (table-low table) is
+  by_strata = of_below p table s low is
 
   abbrev pub in_all : (u w : Valuation) → ((k : ℕ) → sys.Upto k u w) → Below p u w
-  in_all = below_of p table (above_all table) (table-low table) is
+  in_all = below_of p table s low is
 
   -- the outputs of the closures are those of the leaves
   pub flat-output : (i v : Valuation) → IsOutputOf p rs t i v → flat.IsOutput sys (leaves p rs t) i v
@@ -135,8 +122,27 @@ module _ (p : CoreProgram) (table : List ℕ) (is : IsProgram p) (strat : Strati
     least = λ u iu low high h. out.least u iu (by_strata i u low) (by_strata u v high) (to_leaves u v high h);
   }
 
-  pub closures-have_output : (i : Valuation) → IsStore p i → (v : Valuation) × IsOutputOf p rs t i v
-  closures-have_output i ii = (flat.output sys (leaves p rs t) i leaves-fit ii, output-flat i _ ii (flat.has_output sys (leaves p rs t) i leaves-fit ii))
+  pub has_leaf_output : (i : Valuation) → IsStore p i → (v : Valuation) × IsOutputOf p rs t i v
+  has_leaf_output i ii = (flat.output sys (leaves p rs t) i leaves-fit ii, output-flat i _ ii (flat.has_output sys (leaves p rs t) i leaves-fit ii))
 
-  pub closures-one_output : (i v w : Valuation) → IsOutputOf p rs t i v → IsOutputOf p rs t i w → v ≡ w
-  closures-one_output i v w ov ow = flat.one_output sys (leaves p rs t) i leaves-fit ov.given v w (flat-output i v ov) (flat-output i w ow)
+  pub one_leaf_output : (i v w : Valuation) → IsOutputOf p rs t i v → IsOutputOf p rs t i w → v ≡ w
+  one_leaf_output i v w ov ow = flat.one_output sys (leaves p rs t) i leaves-fit ov.given v w (flat-output i v ov) (flat-output i w ow)
+
+-- a number above each of the table's
+abbrev pub above_all : List ℕ → ℕ
+above_all [] = 1
+above_all (x ∷ xs) = suc x + above_all xs
+
+table-low : (table : List ℕ) (c : ℕ) → slice_index table c < above_all table
+table-low [] c = omega arith
+table-low (x ∷ table) zero = omega arith
+table-low (x ∷ table) (suc c) = let h = table-low table c in omega arith
+
+pub all_below : (p : CoreProgram) (table : List ℕ) → AreBelow p table (above_all table)
+all_below p table c within = table-low table c
+
+pub closures-have_output : (p : CoreProgram) (table : List ℕ) → IsProgram p → Stratifies p table → (rs : List Closure) → Each (IsOwn p) rs → (t : ℕ) (i : Valuation) → IsStore p i → (v : Valuation) × IsOutputOf p rs t i v
+closures-have_output p table is strat rs own t i ii = has_leaf_output p table (above_all table) (all_below p table) is strat rs own t i ii
+
+pub closures-one_output : (p : CoreProgram) (table : List ℕ) → IsProgram p → Stratifies p table → (rs : List Closure) → Each (IsOwn p) rs → (t : ℕ) (i v w : Valuation) → IsOutputOf p rs t i v → IsOutputOf p rs t i w → v ≡ w
+closures-one_output p table is strat rs own t i v w ov ow = one_leaf_output p table (above_all table) (all_below p table) is strat rs own t i v w ov ow

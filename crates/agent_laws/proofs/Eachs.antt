@@ -1,6 +1,6 @@
 -- What holds of each element of a list: from one word for it to another, and through the calls that make lists.
-use Rattle.std.proofs.Common.{zero, suc, Bool, true, false, List, [], ◌∷◌, ◌++◌, refl, arith}
-use Rattle.std.specs.Prelude.{IsTrue, All, flat_map, if◌then◌else◌}
+use Rattle.std.proofs.Common.{◌≡◌, ℕ, zero, suc, Bool, true, false, List, [], ◌∷◌, ◌++◌, Some, refl, subst, arith}
+use Rattle.std.specs.Prelude.{IsTrue, slice_get, All, flat_map, if◌then◌else◌}
 use Rattle.std.specs.List.{list_all}
 use Rattle.agent_core.specs.Strata.{Each}
 use Rattle.agent_core.proofs.Bools.{both, first_of_both, second_of_both}
@@ -47,3 +47,9 @@ each_true f P h (x ∷ xs) e = (h x (first_of_both (f x) (list_all f xs) e), eac
 pub true_each : {X : Type 0} (f : X → Bool) (P : X → Type 0) → ((x : X) → P x → IsTrue (f x)) → (xs : List X) → Each P xs → IsTrue (list_all f xs)
 true_each f P h [] e = refl
 true_each f P h (x ∷ xs) e = both _ _ (h x e.0) (true_each f P h xs e.1)
+
+-- it holds of the element at a place
+pub each_at : {X : Type 0} (P : X → Type 0) (xs : List X) (n : ℕ) (x : X) → Each P xs → slice_get xs n ≡ Some x → P x
+each_at P [] n x h e = absurd (cc)
+each_at P (y ∷ xs) zero x h e = let same : y ≡ x = cc in subst P same h.0
+each_at P (y ∷ xs) (suc n) x h e = each_at P xs n x h.1 e

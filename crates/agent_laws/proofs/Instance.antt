@@ -1,7 +1,8 @@
 -- The leaves of an instant and the stores of a program are a system of the fixpoint's kind.
-use Rattle.std.proofs.Common.{◌≡◌, ℕ, suc, ◌<◌, ◌≤◌, Bool, true, false, not, List, [], ◌∷◌, Some, refl, sym, ap, ◌∙◌, subst, arith}
+use Rattle.std.proofs.Common.{◌≡◌, ℕ, suc, ◌<◌, ◌≤◌, Bool, true, false, not, List, [], ◌∷◌, length, refl, sym, ap, ◌∙◌, subst, arith}
 use Rattle.std.specs.Prelude.{IsTrue, Option, slice_get, slice_index, nat_lt, cond, min}
 use Rattle.std.specs.List.{list_all}
+use Rattle.std.proofs.lemmas.Option.{slice_get_within}
 use Rattle.std.proofs.Math.Nat.{min-le_left, min-le_right, le-min}
 use Rattle.token_system.specs.declared.name.CellName.{CellName}
 use Rattle.token_system.specs.declared.name.CellName.TheVariants.{Declared, Local}
@@ -9,11 +10,9 @@ use Rattle.token_system.specs.declared.cell.Token.{Token}
 use Rattle.token_system.specs.Stores.{Valuation}
 use Rattle.token_system.proofs.Alike.{true_false}
 use Rattle.agent_core.specs.declared.node.CellDecl.{CellDecl}
-use Rattle.agent_core.specs.declared.node.Node.{Node}
-use Rattle.agent_core.specs.declared.node.Node.TheVariants as nodes
 use Rattle.agent_core.specs.Agents.{Ask}
 use Rattle.agent_core.specs.Programs.{CoreProgram}
-use Rattle.agent_core.specs.Names.{name_of, local_name, new_of}
+use Rattle.agent_core.specs.Names.{Names, name_of, local_name, new_of}
 use Rattle.agent_core.specs.Stores.{IsStore, Below}
 use Rattle.agent_core.specs.Rests.{holds_at, holds, entails}
 use Rattle.agent_core.specs.Facts.{IsProgram}
@@ -27,19 +26,13 @@ use Rattle.agent_core.specs.Scope.{TokenFits, AskFits}
 use Rattle.agent_core.proofs.NewNodes.{new_of-found}
 use Rattle.agent_core.proofs.Tellings.{tell_all-least, tell_all-entails, tells_one, entails-above}
 use Rattle.agent_laws.specs.LeafRests.{asked, free}
+use Rattle.agent_laws.specs.LeafLevels.{least_told, leaf_level}
+use Rattle.agent_laws.specs.Ways.{new_cell, cell_named, BelowUpto, AreBelow}
 use Rattle.agent_laws.proofs.Eachs.{Each-map}
 use Rattle.agent_laws.proofs.System.{System}
 use Rattle.agent_laws.proofs.LeafLevels.{Under, LeafStratified}
 
-abbrev pub cell_of_node : Option Node → ℕ
-cell_of_node (Some (nodes.New cell body)) = cell
-cell_of_node _ = 0
-
--- the number of the cell that a name is one of
-abbrev pub cell_named : CoreProgram → CellName → ℕ
-cell_named p (Declared n) = n
-cell_named p (Local m births) = cell_of_node (slice_get p.nodes m)
-
+-- each token of the guard fits
 abbrev pub GuardFits : CoreProgram → Guard → Type 0
 GuardFits p (Asks b c) = AskFits p b c
 GuardFits p (Denies b c) = AskFits p b c
@@ -49,28 +42,31 @@ pub record LeafFits (p : CoreProgram) (table : List ℕ) (l : Leaf) : Type 0 whe
   pub path : Each (GuardFits p) l.path
   pub stratified : LeafStratified table l
 
--- the least number of a told cell, or else this number
-abbrev pub least_told : List ℕ → ℕ → Ask → ℕ
-least_told table s [] = s
-least_told table s (x ∷ told) = min (slice_index table x.0) (least_told table s told)
-
 pub not_up : (x y : Bool) → (IsTrue y → IsTrue x) → IsTrue (not x) → IsTrue (not y)
 not_up x true up h = absurd (true_false (sym h ∙ ap not (up refl)))
 not_up x false up h = refl
 
-module _ (p : CoreProgram) (table : List ℕ) (s : ℕ) (low : (c : ℕ) → slice_index table c < s) (is : IsProgram p) where
+-- the cell of a name is one of the program's
+pub cell_within : (p : CoreProgram) (q : CellName) (d : CellDecl) → Names p q d → cell_named p q < length p.cells
+cell_within p (Declared n) d named = slice_get_within p.cells n d named.1
+cell_within p (Local m births) d (cell, body, new, found, long) =
+    let same : new_cell (slice_get p.nodes m) ≡ cell = ap new_cell new in
+    subst (λ (c : ℕ). c < length p.cells) (sym same) (slice_get_within p.cells cell d found)
+
+-- s strata, or more
+module _ (p : CoreProgram) (table : List ℕ) (s : ℕ) (low : AreBelow p table s) (is : IsProgram p) where
   abbrev pub level_of : CellName → ℕ
   level_of q = slice_index table (cell_named p q)
 
   abbrev pub Upto : ℕ → Valuation → Valuation → Type 0
-  Upto k u w = (q : CellName) → level_of q < k → BelowAt p u w q
+  Upto = BelowUpto p table
 
   name-cell : (b : List ℕ) (x : ℕ × Token) → TokenFits p b x → cell_named p (name_of p b x.0) ≡ x.0
   name-cell b x f = go (nat_lt x.0 p.declared) refl
     where
       go : (r : Bool) → nat_lt x.0 p.declared ≡ r → cell_named p (cond r (Declared x.0) (local_name p.nodes b (new_of p.nodes x.0))) ≡ x.0
       go true e = refl
-      go false e = ap cell_of_node (new_of-found p is x.0 f.decl e f.found).1
+      go false e = ap new_cell (new_of-found p is x.0 f.decl e f.found).1
 
   name-level : (b : List ℕ) (x : ℕ × Token) → TokenFits p b x → level_of (name_of p b x.0) ≡ slice_index table x.0
   name-level b x f = ap (slice_index table) (name-cell b x f)
@@ -104,19 +100,15 @@ module _ (p : CoreProgram) (table : List ℕ) (s : ℕ) (low : (c : ℕ) → sli
       both _ _ (not_up (entails p b w c) (entails p b u c) (entails-upto k b u w c f.0 (below_low k m c le under.0) upto) (first_of_both (not (entails p b w c)) (list_all (free p w) path) h))
       (free-down k m u w path le f.1 under.1 upto (second_of_both (not (entails p b w c)) (list_all (free p w) path) h))
 
-  -- the guards lie under the level of the leaf
+  each_low : (b : List ℕ) (c : Ask) → AskFits p b c → Each (λ x. slice_index table x.0 < s) c
+  each_low b [] f = tt
+  each_low b (x ∷ c) f = (low x.0 (slice_get_within p.cells x.0 f.0.decl f.0.found), each_low b c f.1)
+
+  -- no guard asks for a cell of a number above all
   under_all : (path : List Guard) → Each (GuardFits p) path → Each (Under table s) path
   under_all [] f = tt
-  under_all (Asks b c ∷ path) f = (each_low c, under_all path f.1)
-    where
-      each_low : (c : Ask) → Each (λ x. slice_index table x.0 ≤ s) c
-      each_low [] = tt
-      each_low (x ∷ c) = (let h = low x.0 in omega arith, each_low c)
-  under_all (Denies b c ∷ path) f = (each_low c, under_all path f.1)
-    where
-      each_low : (c : Ask) → Each (λ x. slice_index table x.0 < s) c
-      each_low [] = tt
-      each_low (x ∷ c) = (low x.0, each_low c)
+  under_all (Asks b c ∷ path) f = (Each-map (λ x. slice_index table x.0 < s) (λ x. slice_index table x.0 ≤ s) (λ x lt. omega arith) c (each_low b c f.0), under_all path f.1)
+  under_all (Denies b c ∷ path) f = (each_low b c f.0, under_all path f.1)
 
   under-min : (k m : ℕ) (path : List Guard) → Each (Under table k) path → Each (Under table m) path → Each (Under table (min k m)) path
   under-min k m [] h g = tt
@@ -172,7 +164,7 @@ module _ (p : CoreProgram) (table : List ℕ) (s : ℕ) (low : (c : ℕ) → sli
     IsLeaf = LeafFits p table;
     Upto = Upto;
     strata = s;
-    level = λ l. least_told table s (tells l.agent);
+    level = leaf_level table s;
     on = λ l u. list_all (asked p u) l.path;
     off = λ l u. not (list_all (free p u) l.path);
     told = λ l u. entails p l.births u (tells l.agent);
@@ -180,7 +172,7 @@ module _ (p : CoreProgram) (table : List ℕ) (s : ℕ) (low : (c : ℕ) → sli
     Upto-none = λ u w q lt. absurd (omega arith);
     Upto-refl = λ k u q lt d t named fits h. h;
     Upto-trans = λ k u v w a b q lt d t named fits h. b q lt d t named fits (a q lt d t named fits h);
-    Upto-all = λ u w h k q lt. h q (low (cell_named p q));
+    Upto-all = λ u w h k q lt d t named. h q (low (cell_named p q) (cell_within p q d named)) d t named;
     one = λ u w iu iw a b. Below-antisym p u w iu iw (below_of u w a) (below_of w u b);
     on-up = λ l k u w f lt upto h. asked-upto k (least_told table s (tells l.agent)) u w l.path lt f.path (under_level (tells l.agent) l.path f.path f.stratified) upto h;
     off-up = λ l k u w f le upto h.

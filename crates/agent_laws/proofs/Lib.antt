@@ -10,7 +10,10 @@ pub mod Flattened
 pub mod Sorting
 pub mod Started
 pub mod ClosureOutputs
+pub mod Completing
 pub mod RootRests
 pub mod ProgramOutputs
 pub mod Runs
 pub mod NextRoots
+pub mod Samples
+pub mod SampleOutputs

@@ -71,20 +71,21 @@ module _ (p : CoreProgram) (table : List ℕ) (is : IsProgram p) (strat : Strati
       let r = runs_upto (length ins) (omega arith) in
       (r.0, subst (λ (z : List Valuation). IsRun p z r.0) (take-length ins) r.1)
 
-  module _ (a b : List Valuation) (ra : IsRun p ins a) (rb : IsRun p ins b) where
-    same_upto : (k : ℕ) → k ≤ length ins → take k a ≡ take k b
-    same_upto zero le = refl
-    same_upto (suc k) le =
-        let before = same_upto k (omega arith) in
-        let la : k < length a = let w = ra.whole in omega arith in
-        let lb : k < length b = let w = rb.whole in omega arith in
-        let i : Valuation = get_or ins k empty in
-        let at = slice_get-get_or ins k empty (omega arith) in
-        let oa = ra.each k i (get_or a k empty) at (slice_get-get_or a k empty la) in
-        let ob = rb.each k i (get_or b k empty) at (slice_get-get_or b k empty lb) in
-        let one = one_output p table is strat (take k a) i (get_or a k empty) (get_or b k empty) oa (subst (λ (z : List Valuation). IsOutput p z i (get_or b k empty)) (sym before) ob) in
-        take-suc a k empty la ∙ ap (λ (z : List Valuation). z ++ get_or a k empty ∷ []) before ∙ ap (λ (v : Valuation). take k b ++ v ∷ []) one ∙ sym (take-suc b k empty lb)
+-- and there is no other
+module _ (p : CoreProgram) (table : List ℕ) (is : IsProgram p) (strat : Stratifies p table) (ins a b : List Valuation) (ra : IsRun p ins a) (rb : IsRun p ins b) where
+  same_upto : (k : ℕ) → k ≤ length ins → take k a ≡ take k b
+  same_upto zero le = refl
+  same_upto (suc k) le =
+      let before = same_upto k (omega arith) in
+      let la : k < length a = let w = ra.whole in omega arith in
+      let lb : k < length b = let w = rb.whole in omega arith in
+      let i : Valuation = get_or ins k empty in
+      let at = slice_get-get_or ins k empty (omega arith) in
+      let oa = ra.each k i (get_or a k empty) at (slice_get-get_or a k empty la) in
+      let ob = rb.each k i (get_or b k empty) at (slice_get-get_or b k empty lb) in
+      let one = one_output p table is strat (take k a) i (get_or a k empty) (get_or b k empty) oa (subst (λ (z : List Valuation). IsOutput p z i (get_or b k empty)) (sym before) ob) in
+      take-suc a k empty la ∙ ap (λ (z : List Valuation). z ++ get_or a k empty ∷ []) before ∙ ap (λ (v : Valuation). take k b ++ v ∷ []) one ∙ sym (take-suc b k empty lb)
 
-    pub one_run : a ≡ b
-    one_run =
-        sym (take-length a) ∙ ap (λ (k : ℕ). take k a) ra.whole ∙ same_upto (length ins) (omega arith) ∙ ap (λ (k : ℕ). take k b) (sym rb.whole) ∙ take-length b
+  pub one_run : a ≡ b
+  one_run =
+      sym (take-length a) ∙ ap (λ (k : ℕ). take k a) ra.whole ∙ same_upto (length ins) (omega arith) ∙ ap (λ (k : ℕ). take k b) (sym rb.whole) ∙ take-length b

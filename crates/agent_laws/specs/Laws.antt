@@ -14,6 +14,7 @@ use Rattle.agent_core.specs.Leaves.{leaves}
 use Rattle.agent_core.specs.Strata.{Stratifies}
 use Rattle.agent_core.specs.RootOutputs.{roots_rest, IsOutputOf}
 use Rattle.agent_laws.specs.LeafRests.{leaf_rests}
+use Rattle.agent_laws.specs.LeafLevels.{tell_ran}
 use Rattle.agent_laws.specs.NextRoots.{next_of}
 
 -- there is one value of which P holds, and no other
@@ -29,6 +30,12 @@ abbrev pub RootsHaveOneOutput : Type 0
 RootsHaveOneOutput =
     (p : CoreProgram) (table : List ℕ) → IsProgram p → Stratifies p table
     → (rs : List Closure) → AreClosures p rs → (t : ℕ) (i : Valuation) → IsStore p i → ExactlyOne (IsOutputOf p rs t i)
+
+-- and that output is the input with what the leaves tell that it runs
+abbrev pub OutputsAreTold : Type 0
+OutputsAreTold =
+    (p : CoreProgram) (table : List ℕ) → IsProgram p → Stratifies p table
+    → (rs : List Closure) → AreClosures p rs → (t : ℕ) (i v : Valuation) → IsOutputOf p rs t i v → tell_ran p v (leaves p rs t) i ≡ v
 
 -- where u is below v, closures rest under (u, v) exactly where each of their leaves does
 abbrev pub RestsByLeaves : Type 0

@@ -1,3 +1,6 @@
 pub mod LeafRests
+pub mod LeafLevels
+pub mod Ways
 pub mod NextRoots
 pub mod Laws
+pub mod Worked

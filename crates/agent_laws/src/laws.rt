@@ -1,4 +1,5 @@
-ghost use Rattle.agent_laws.specs.Laws.{NextRootsFollow, ProgramHasOneOutput, ProgramHasOneRun, RestsByLeaves, RestsByRoots, RootsAreClosures, RootsHaveOneOutput, StartsAtRoot};
+ghost use Rattle.agent_laws.specs.Laws.{NextRootsFollow, OutputsAreTold, ProgramHasOneOutput, ProgramHasOneRun, RestsByLeaves, RestsByRoots, RootsAreClosures, RootsHaveOneOutput, StartsAtRoot};
+ghost use Rattle.agent_laws.specs.Worked.{StandsOnItself, StartsEverMore, StartsLaterTwice, TellsByDefault};
 
 /// Closures of a program that a table stratifies have exactly one output on each input, at whatever
 /// instant they are started.
@@ -32,4 +33,17 @@ pub fn one_run_law()
 /// that the leaves start which the store runs.
 pub fn next_roots_law()
     ensures { NextRootsFollow }
+{}
+
+/// The output of closures is the input with what the leaves that it runs tell, and no more.
+pub fn told_law()
+    ensures { OutputsAreTold }
+{}
+
+/// What the definitions of strata, roots, leaves and outputs say of four small programs.
+pub fn worked_law()
+    ensures default { TellsByDefault }
+    ensures itself { StandsOnItself }
+    ensures later { StartsLaterTwice }
+    ensures more { StartsEverMore }
 {}

@@ -10,4 +10,4 @@ returns-clause-output c p table is strat z i ii =
 pub returns-clause-run : goal.returns-clause-run
 returns-clause-run c p table is strat ins stores =
     let r = has_run p table is strat ins stores in
-    (r.0, r.1, λ others run. one_run p table is strat ins stores r.0 others r.1 run)
+    (r.0, r.1, λ others run. one_run p table is strat ins r.0 others r.1 run)
