@@ -1,22 +1,25 @@
 -- How the output of closures is completed from their leaves: what a loop over strata needs to know.
-use Rattle.std.proofs.Common.{◌≡◌, ℕ, suc, ◌≤◌, Bool, true, false, ◌&&◌, not, cond, List, [], ◌∷◌, Some, refl, sym, ap, ◌∙◌, arith}
-use Rattle.std.specs.Prelude.{IsTrue, slice_get}
+use Rattle.std.proofs.Common.{◌≡◌, ℕ, suc, ◌≤◌, Bool, true, false, ◌&&◌, not, cond, List, [], ◌∷◌, Some, refl, sym, ap, ◌∙◌, subst, arith}
+use Rattle.std.specs.Prelude.{Option, IsTrue, slice_get}
 use Rattle.std.specs.List.{list_all}
+use Rattle.token_system.specs.declared.cell.Token.{Token}
 use Rattle.token_system.specs.Stores.{Valuation}
 use Rattle.token_system.proofs.Alike.{true_false}
 use Rattle.agent_core.specs.declared.node.Closure.{Closure}
+use Rattle.agent_core.specs.declared.node.CellDecl.{CellDecl}
 use Rattle.agent_core.specs.Programs.{CoreProgram}
 use Rattle.agent_core.specs.Facts.{IsProgram}
-use Rattle.agent_core.specs.Rests.{entails}
-use Rattle.agent_core.specs.Tellings.{tell_all}
+use Rattle.agent_core.specs.Rests.{holds_at, holds, entails}
+use Rattle.agent_core.specs.Tellings.{tell_at, tell_all}
+use Rattle.agent_core.specs.Scope.{TokenFits}
 use Rattle.agent_core.specs.Leaves.{Guard, Asks, Denies, Leaf, leaves, tells, allows, runs}
 use Rattle.agent_core.specs.Strata.{Each, Stratifies}
 use Rattle.agent_core.specs.RootOutputs.{IsOutputOf}
-use Rattle.agent_core.proofs.Tellings.{Below-refl}
+use Rattle.agent_core.proofs.Tellings.{Below-refl, Below-trans, tells_one}
 use Rattle.agent_laws.specs.LeafRests.{asked, free}
 use Rattle.agent_laws.specs.LeafLevels.{leaf_level, tell_ran}
 use Rattle.agent_laws.specs.Ways.{AreBelow, IsOnWay}
-use Rattle.agent_laws.proofs.Eachs.{Each-map, each_at}
+use Rattle.agent_laws.proofs.Eachs.{Each-map, each_at, each_true}
 use Rattle.agent_laws.proofs.System.{System}
 use Rattle.agent_laws.proofs.Fixpoint as flat
 use Rattle.agent_laws.proofs.Settling as settling
@@ -25,10 +28,6 @@ use Rattle.agent_laws.proofs.Started.{IsOwn}
 use Rattle.agent_laws.proofs.ClosureOutputs.{leaves-fit, flat-output, by_strata, in_all}
 
 -- TO RUN A LEAF IS TO FREE ITS PATH AND TO ANSWER ITS ASKS
-
-and_true_true : (x : Bool) → (x && true) ≡ x
-and_true_true true = refl
-and_true_true false = refl
 
 asks_first : (e f a : Bool) → (e && (f && a)) ≡ (f && (e && a))
 asks_first true f a = refl
@@ -97,6 +96,27 @@ module _ (p : CoreProgram) (table : List ℕ) (s : ℕ) (low : AreBelow p table 
       let r = parts (list_all (free p w) l.path) (list_all (asked p w) l.path) (sym (runs-parts p w l.path) ∙ run) in
       of_way k _ (settling.tell-way sys (leaves p rs t) i fit out.given v of_leaves k w l (to_way k w h)
       (each_at (LeafFits p table) (leaves p rs t) n l fit at) (each_at (flat.LeafRests sys v v) (leaves p rs t) n l of_leaves.rests at) le r.0 r.1)
+
+  -- the output has what a leaf tells that it runs
+  has_told : (n : ℕ) (l : Leaf) → slice_get (leaves p rs t) n ≡ Some l → IsTrue (runs p v l) → IsTrue (entails p l.births v (tells l.agent))
+  has_told n l at run =
+      let r = parts (list_all (free p v) l.path) (list_all (asked p v) l.path) (sym (runs-parts p v l.path) ∙ run) in
+      (each_at (flat.LeafRests sys v v) (leaves p rs t) n l of_leaves.rests at r.0).0 r.1
+
+  -- each single token may be told of a leaf that the output runs
+  pub token-on_way : (k : ℕ) (w : Valuation) (n j : ℕ) (l : Leaf) (pair : ℕ × Token) → IsOnWay p table i v k w → slice_get (leaves p rs t) n ≡ Some l → IsTrue (runs p v l)
+      → slice_get (tells l.agent) j ≡ Some pair → IsOnWay p table i v k (tell_at (slice_get p.cells pair.0) p l.births w pair.0 pair.1)
+  token-on_way k w n j l pair h at run e =
+      let f : TokenFits p l.births pair = each_at (TokenFits p l.births) (tells l.agent) j pair (each_at (LeafFits p table) (leaves p rs t) n l fit at).told e in
+      let has : IsTrue (holds p l.births v pair) = each_at (λ x. IsTrue (holds p l.births v x)) (tells l.agent) j pair
+      (each_true (holds p l.births v) (λ x. IsTrue (holds p l.births v x)) (λ x g. g) (tells l.agent) (has_told n l at run)) e in
+      let one = tells_one p l.births w pair h.store f in
+      record {
+        store = one.store;
+        above = Below-trans p i w _ h.above one.above;
+        below = one.least v out.store h.below (subst (λ (o : Option CellDecl). IsTrue (holds_at o p l.births v pair.0 pair.1)) f.found has);
+        stands = λ q lt d x named fits g. one.above q d x named fits (h.stands q lt d x named fits g);
+      }
 
   -- a leaf of level at most k that the store runs is run by the output
   pub runs-on_way : (k : ℕ) (w : Valuation) (n : ℕ) (l : Leaf) → IsOnWay p table i v k w → slice_get (leaves p rs t) n ≡ Some l → leaf_level table s l ≤ k → IsTrue (runs p w l) → IsTrue (runs p v l)

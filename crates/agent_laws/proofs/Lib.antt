@@ -8,6 +8,7 @@ pub mod NodeFloors
 pub mod Instance
 pub mod Flattened
 pub mod Sorting
+pub mod Ascending
 pub mod Started
 pub mod ClosureOutputs
 pub mod Completing

@@ -32,7 +32,7 @@ closure_anti x y e =
     rest (n ∷ ns) = ns
 
 -- what holds of each closure of a list holds of each of the sorted list
-each_put : (P : Closure → Type 0) (r : Closure) (rs : List Closure) → P r → Each P rs → Each P (put r rs)
+pub each_put : (P : Closure → Type 0) (r : Closure) (rs : List Closure) → P r → Each P rs → Each P (put r rs)
 each_put P r [] h g = (h, tt)
 each_put P r (first ∷ rest) h g = go (closure_cmp r first) (each_put P r rest h g.1)
   where

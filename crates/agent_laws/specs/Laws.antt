@@ -15,6 +15,7 @@ use Rattle.agent_core.specs.Strata.{Stratifies}
 use Rattle.agent_core.specs.RootOutputs.{roots_rest, IsOutputOf}
 use Rattle.agent_laws.specs.LeafRests.{leaf_rests}
 use Rattle.agent_laws.specs.LeafLevels.{tell_ran}
+use Rattle.agent_laws.specs.SortedLists.{IsSortedOf}
 use Rattle.agent_laws.specs.NextRoots.{next_of}
 
 -- there is one value of which P holds, and no other
@@ -24,6 +25,10 @@ ExactlyOne {X} P = (x : X) × P x × ((y : X) → P y → x ≡ y)
 -- each is a closure of the program
 abbrev pub AreClosures : CoreProgram → List Closure → Type 0
 AreClosures p rs = All (λ r. IsClosure p r.node r.births) rs
+
+-- the sorted list has the closures of the list in order, each once, and no other list has
+abbrev pub SortedIsInOrder : Type 0
+SortedIsInOrder = (cs : List Closure) → IsSortedOf cs (sorted cs) × ((xs : List Closure) → IsSortedOf cs xs → xs ≡ sorted cs)
 
 -- closures of a program that a table stratifies have exactly one output on each input, at whatever instant they are started
 abbrev pub RootsHaveOneOutput : Type 0

@@ -1,4 +1,4 @@
-ghost use Rattle.agent_laws.specs.Laws.{NextRootsFollow, OutputsAreTold, ProgramHasOneOutput, ProgramHasOneRun, RestsByLeaves, RestsByRoots, RootsAreClosures, RootsHaveOneOutput, StartsAtRoot};
+ghost use Rattle.agent_laws.specs.Laws.{NextRootsFollow, OutputsAreTold, ProgramHasOneOutput, ProgramHasOneRun, RestsByLeaves, RestsByRoots, RootsAreClosures, RootsHaveOneOutput, SortedIsInOrder, StartsAtRoot};
 ghost use Rattle.agent_laws.specs.Worked.{StandsOnItself, StartsEverMore, StartsLaterTwice, TellsByDefault};
 
 /// Closures of a program that a table stratifies have exactly one output on each input, at whatever
@@ -20,6 +20,12 @@ pub fn by_roots_law()
     ensures rests { RestsByRoots }
     ensures closures { RootsAreClosures }
     ensures first { StartsAtRoot }
+{}
+
+/// A list of closures in order: it has those of the list that is sorted, each once, and is the only
+/// such list.
+pub fn sorted_law()
+    ensures { SortedIsInOrder }
 {}
 
 /// A program that a table stratifies has exactly one output on each input, after whatever closed

@@ -6,5 +6,6 @@
 mod laws;
 
 pub use laws::{
-    by_leaves_law, by_roots_law, next_roots_law, one_output_law, one_run_law, told_law, worked_law,
+    by_leaves_law, by_roots_law, next_roots_law, one_output_law, one_run_law, sorted_law, told_law,
+    worked_law,
 };
