@@ -5,6 +5,8 @@ use Rattle.std.specs.List.{list_any, AllByRecursion}
 use Rattle.std.specs.List.Sorted.{IsStrictlySortedBy}
 use Rattle.std.specs.declared.cmp.Ordering.{Ordering}
 use Rattle.std.specs.declared.cmp.Ordering.TheVariants.{Less, Equal, Greater}
+use Rattle.std.proofs.Math.Bool.{or-true}
+use Rattle.std.specs.Cmp.{both_ways}
 use Rattle.token_system.proofs.Alike.{true_false}
 use Rattle.std.specs.Ordering.{ordering_reverse}
 use Rattle.agent_core.specs.declared.node.Closure.{Closure}
@@ -103,11 +105,7 @@ sorted-members y (x ∷ xs) = (λ i. down (sorted-members y xs).0 (put-to y x (s
 any_from : (P : Closure → Bool) (xs : List Closure) (x : Closure) → In x xs → IsTrue (P x) → IsTrue (list_any P xs)
 any_from P [] x i h = absurd i
 any_from P (y ∷ xs) x (inl e) h = ap (λ b. b || list_any P xs) (subst (λ (z : Closure). P z ≡ true) e h)
-any_from P (y ∷ xs) x (inr i) h = ap (λ b. P y || b) (any_from P xs x i h) ∙ or_true_end (P y)
-  where
-    or_true_end : (b : Bool) → (b || true) ≡ true
-    or_true_end true = refl
-    or_true_end false = refl
+any_from P (y ∷ xs) x (inr i) h = ap (λ b. P y || b) (any_from P xs x i h) ∙ or-true (P y)
 
 any_to : (P : Closure → Bool) (xs : List Closure) → IsTrue (list_any P xs) → (x : Closure) × In x xs × IsTrue (P x)
 any_to P [] h = absurd (true_false (sym h))
@@ -119,14 +117,9 @@ any_to P (y ∷ xs) h = go (P y) refl h (any_to P xs)
 
 -- the same passes a test
 pub any_same : (xs ys : List Closure) → ((c : Closure) → In c xs ↔ In c ys) → (P : Closure → Bool) → list_any P xs ≡ list_any P ys
-any_same xs ys same P = both_same (list_any P xs) (list_any P ys)
+any_same xs ys same P = both_ways (list_any P xs) (list_any P ys)
     (λ h. let f = any_to P xs h in any_from P ys f.0 ((same f.0).0 f.1) f.2)
     (λ h. let f = any_to P ys h in any_from P xs f.0 ((same f.0).1 f.1) f.2)
-  where
-    both_same : (a b : Bool) → (IsTrue a → IsTrue b) → (IsTrue b → IsTrue a) → a ≡ b
-    both_same true b f g = sym (f refl)
-    both_same false true f g = g refl
-    both_same false false f g = refl
 
 -- THE SORTED LIST
 

@@ -2,6 +2,7 @@
 use Rattle.std.proofs.Common.{◌≡◌, ℕ, suc, ◌≤◌, Bool, true, false, ◌&&◌, not, cond, List, [], ◌∷◌, Some, refl, sym, ap, ◌∙◌, subst, arith}
 use Rattle.std.specs.Prelude.{Option, IsTrue, slice_get}
 use Rattle.std.specs.List.{list_all}
+use Rattle.std.proofs.Math.Bool.{and_assoc, not-not}
 use Rattle.token_system.specs.declared.cell.Token.{Token}
 use Rattle.token_system.specs.Stores.{Valuation}
 use Rattle.token_system.proofs.Alike.{true_false}
@@ -19,6 +20,7 @@ use Rattle.agent_core.proofs.Tellings.{Below-refl, Below-trans, tells_one}
 use Rattle.agent_laws.specs.LeafRests.{asked, free}
 use Rattle.agent_laws.specs.LeafLevels.{leaf_level, tell_ran}
 use Rattle.agent_laws.specs.Ways.{AreBelow, IsOnWay}
+use Rattle.agent_laws.proofs.Booleans.{and_swap}
 use Rattle.agent_laws.proofs.Eachs.{Each-map, each_at, each_true}
 use Rattle.agent_laws.proofs.System.{System}
 use Rattle.agent_laws.proofs.Fixpoint as flat
@@ -29,23 +31,10 @@ use Rattle.agent_laws.proofs.ClosureOutputs.{leaves-fit, flat-output, by_strata,
 
 -- TO RUN A LEAF IS TO FREE ITS PATH AND TO ANSWER ITS ASKS
 
-asks_first : (e f a : Bool) → (e && (f && a)) ≡ (f && (e && a))
-asks_first true f a = refl
-asks_first false true a = refl
-asks_first false false a = refl
-
-denies_first : (d f a : Bool) → (d && (f && a)) ≡ ((d && f) && a)
-denies_first true f a = refl
-denies_first false f a = refl
-
 pub runs-parts : (p : CoreProgram) (v : Valuation) (path : List Guard) → list_all (allows p v) path ≡ (list_all (free p v) path && list_all (asked p v) path)
 runs-parts p v [] = refl
-runs-parts p v (Asks b c ∷ path) = ap (λ x. entails p b v c && x) (runs-parts p v path) ∙ asks_first (entails p b v c) (list_all (free p v) path) (list_all (asked p v) path)
-runs-parts p v (Denies b c ∷ path) = ap (λ x. not (entails p b v c) && x) (runs-parts p v path) ∙ denies_first (not (entails p b v c)) (list_all (free p v) path) (list_all (asked p v) path)
-
-not_not : (x : Bool) → not (not x) ≡ x
-not_not true = refl
-not_not false = refl
+runs-parts p v (Asks b c ∷ path) = ap (λ x. entails p b v c && x) (runs-parts p v path) ∙ and_swap (entails p b v c) (list_all (free p v) path) (list_all (asked p v) path)
+runs-parts p v (Denies b c ∷ path) = ap (λ x. not (entails p b v c) && x) (runs-parts p v path) ∙ sym (and_assoc (not (entails p b v c)) (list_all (free p v) path) (list_all (asked p v) path))
 
 parts : (f a : Bool) → IsTrue (f && a) → (not f ≡ false) × IsTrue a
 parts true a h = (refl, h)
@@ -142,7 +131,7 @@ module _ (p : CoreProgram) (table : List ℕ) (s : ℕ) (low : AreBelow p table 
   end-on_way w h = settling.end-way sys (leaves p rs t) i fit out.given v of_leaves w (to_way s w h)
 
   run_same : (l : Leaf) → settling.runs sys (leaves p rs t) i fit out.given v of_leaves l ≡ runs p v l
-  run_same l = ap (λ x. x && list_all (asked p v) l.path) (not_not (list_all (free p v) l.path)) ∙ sym (runs-parts p v l.path)
+  run_same l = ap (λ x. x && list_all (asked p v) l.path) (not-not (list_all (free p v) l.path)) ∙ sym (runs-parts p v l.path)
 
   tell_same : (ls : List Leaf) (u : Valuation) → settling.tell_run sys (leaves p rs t) i fit out.given v of_leaves ls u ≡ tell_ran p v ls u
   tell_same [] u = refl

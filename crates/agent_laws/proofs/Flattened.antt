@@ -3,6 +3,7 @@ use Rattle.std.proofs.Common.{◌≡◌, ℕ, suc, ◌+◌, Bool, true, false, �
 use Rattle.std.specs.Prelude.{IsTrue}
 use Rattle.std.specs.List.{list_all}
 use Rattle.std.proofs.lemmas.List.Folds.{list_all-append}
+use Rattle.std.proofs.Math.Bool.{and-true, and_self}
 use Rattle.token_system.specs.Stores.{Valuation}
 use Rattle.token_system.proofs.Alike.{true_false}
 use Rattle.agent_core.specs.Agents.{Agent, Skip, Tell, Then, Else, Par, New, Hence, Next, agent_at}
@@ -16,25 +17,9 @@ use Rattle.agent_core.specs.Leaves.{Guard, Asks, Denies, Leaf, leaves_of, leaves
 use Rattle.agent_core.specs.RootOutputs.{roots_rest}
 use Rattle.agent_core.proofs.Bools.{both, first_of_both, second_of_both}
 use Rattle.agent_core.proofs.Tellings.{entails-above}
+use Rattle.agent_laws.proofs.Booleans.{and_pairs}
 use Rattle.agent_laws.specs.LeafRests.{asked, free, path_rests, leaf_rests}
 use Rattle.agent_core.specs.Strata.{Each}
-
-and_true : (x : Bool) → (x && true) ≡ x
-and_true true = refl
-and_true false = refl
-
-and_twice : (x : Bool) → (x && x) ≡ x
-and_twice true = refl
-and_twice false = refl
-
-and_pairs : (a b c d : Bool) → ((a && b) && (c && d)) ≡ ((a && c) && (b && d))
-and_pairs true true c d = and_true_first c d
-  where
-    and_true_first : (c d : Bool) → (c && d) ≡ (c && d)
-    and_true_first c d = refl
-and_pairs true false true d = refl
-and_pairs true false false d = refl
-and_pairs false b c d = refl
 
 -- nothing is told
 path_idle : (f a b : Bool) → true ≡ path_rests f a b true true
@@ -48,7 +33,7 @@ path_both : (f a b x y x' y' : Bool) → (path_rests f a b x y && path_rests f a
 path_both false a b x y x' y' = refl
 path_both true false false x y x' y' = refl
 path_both true false true x y x' y' = refl
-path_both true true false x y x' y' = ap (λ r. r && (x' && true)) (and_true x) ∙ ap (λ r. x && r) (and_true x') ∙ sym (and_true (x && x'))
+path_both true true false x y x' y' = ap (λ r. r && (x' && true)) (and-true x) ∙ ap (λ r. x && r) (and-true x') ∙ sym (and-true (x && x'))
 path_both true true true x y x' y' = and_pairs x y x' y'
 
 twice_over : (x y : Bool) → (x && y) ≡ ((x && y) && (y && y))
@@ -61,9 +46,9 @@ path_then : (f a b e g x y : Bool) → (IsTrue a → IsTrue b)
 path_then false a b e g x y up = refl
 path_then true false false e g x y up = refl
 path_then true true false e g x y up = absurd (true_false (sym (up refl)))
-path_then true false true true true x y up = sym (and_twice y)
+path_then true false true true true x y up = sym (and_self y)
 path_then true false true true false x y up = refl
-path_then true false true false true x y up = sym (and_twice y)
+path_then true false true false true x y up = sym (and_self y)
 path_then true false true false false x y up = refl
 path_then true true true true true x y up = twice_over x y
 path_then true true true true false x y up = twice_over x true
@@ -73,7 +58,7 @@ path_then true true true false false x y up = refl
 path_else : (f a b g x y : Bool) → path_rests (f && (not g && true)) (a && (true && true)) (b && (true && true)) x y ≡ path_rests f a b (not g ⇒ x) (not g ⇒ y)
 path_else false a b g x y = refl
 path_else true a b true x y = path_idle true a b
-path_else true a b false x y = ap (λ r. path_rests true r (b && true) x y) (and_true a) ∙ ap (λ r. path_rests true a r x y) (and_true b)
+path_else true a b false x y = ap (λ r. path_rests true r (b && true) x y) (and-true a) ∙ ap (λ r. path_rests true a r x y) (and-true b)
 
 or_up : (e x y : Bool) → (IsTrue x → IsTrue y) → IsTrue (e || x) → IsTrue (e || y)
 or_up true x y up h = refl
@@ -109,10 +94,10 @@ module _ (p : CoreProgram) (t : ℕ) (u v : Valuation) (below : Below p u v) whe
   -- the leaves below an agent, where this path leads to the agent
   pub leaves_of-rest : (a : Agent) (n : ℕ) (b : List ℕ) (path : List Guard) → AgentFits p t a b → (IsTrue (by_u path) → IsTrue (by_v path))
       → leaves_rest (leaves_of t a n b path) ≡ path_rests (free_on path) (by_u path) (by_v path) (agent_rests p t v a b u) (agent_rests p t v a b v)
-  leaves_of-rest Skip n b path f up = and_true _
-  leaves_of-rest (Tell c) n b path f up = and_true _
-  leaves_of-rest (Hence a) n b path f up = and_true _
-  leaves_of-rest (Next a) n b path f up = and_true _
+  leaves_of-rest Skip n b path f up = and-true _
+  leaves_of-rest (Tell c) n b path f up = and-true _
+  leaves_of-rest (Hence a) n b path f up = and-true _
+  leaves_of-rest (Next a) n b path f up = and-true _
   leaves_of-rest (New cell a) n b path f up = leaves_of-rest a (suc n) (b ++ t ∷ []) path f up
   leaves_of-rest (Par l r) n b path f up =
       list_all-append (leaf_rests p u v) (leaves_of t l (suc n) b path) (leaves_of t r (suc n + size l) b path)

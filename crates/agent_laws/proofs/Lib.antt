@@ -1,3 +1,4 @@
+pub mod Booleans
 pub mod Eachs
 pub mod System
 pub mod Fixpoint

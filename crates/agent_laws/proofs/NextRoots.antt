@@ -1,8 +1,9 @@
 -- The roots after one more closed store: those that a hence started stay, and the leaves that the store runs start theirs.
-use Rattle.std.proofs.Common.{◌≡◌, ℕ, suc, ◌+◌, ◌-◌, ◌≤◌, Bool, true, false, ◌&&◌, ◌||◌, cond, List, [], ◌∷◌, ◌++◌, length, refl, sym, ap, ◌∙◌, arith}
+use Rattle.std.proofs.Common.{◌≡◌, ℕ, suc, ◌+◌, ◌-◌, ◌≤◌, Bool, true, false, ◌&&◌, ◌||◌, cond, List, [], ◌∷◌, ◌++◌, length, length-append, refl, sym, ap, ◌∙◌, arith}
 use Rattle.std.specs.Prelude.{flat_map, if◌then◌else◌, filter}
 use Rattle.std.specs.List.{list_any}
 use Rattle.std.proofs.lemmas.List.Folds.{list_any-append}
+use Rattle.std.proofs.Math.Bool.{or-false, or_assoc, or_comm}
 use Rattle.token_system.specs.Stores.{Valuation}
 use Rattle.agent_core.specs.declared.node.Closure.{Closure}
 use Rattle.agent_core.specs.declared.node.Node.{Node}
@@ -17,26 +18,10 @@ use Rattle.agent_core.proofs.Standing.{StandsAt, stands-tail}
 use Rattle.agent_core.proofs.ListingTrees.{left_listed, right_listed, listed_tree}
 use Rattle.agent_core.proofs.Places.{root_place}
 use Rattle.agent_laws.specs.NextRoots.{is_hence, stays, starts, next_of}
+use Rattle.agent_laws.proofs.Booleans.{or_pairs}
 use Rattle.agent_laws.proofs.Eachs.{Each-map}
 use Rattle.agent_laws.proofs.RootRests.{suffixes-length}
 use Rattle.agent_laws.proofs.Sorting.{same_sorted, sorted-any}
-
-or_false : (x : Bool) → (x || false) ≡ x
-or_false true = refl
-or_false false = refl
-
-or_assoc : (x y z : Bool) → ((x || y) || z) ≡ (x || (y || z))
-or_assoc true y z = refl
-or_assoc false y z = refl
-
-or_pairs : (a b c d : Bool) → ((a || b) || (c || d)) ≡ ((a || c) || (b || d))
-or_pairs true b c d = refl
-or_pairs false b true d = or_true_end b
-  where
-    or_true_end : (b : Bool) → (b || true) ≡ true
-    or_true_end true = refl
-    or_true_end false = refl
-or_pairs false b false d = refl
 
 module _ {X Y : Type 0} (P : X → Bool) where
   any-flat : (f : Y → List X) (ys : List Y) → list_any P (flat_map f ys) ≡ list_any (λ y. list_any P (f y)) ys
@@ -49,18 +34,14 @@ any-each f g (y ∷ ys) h = ap (λ b. b || list_any f ys) h.0 ∙ ap (λ b. g y 
 
 -- the suffixes of a longer list are those of the list, each longer, and the empty one
 any-suffixes : (F : List Valuation → Bool) (w : Valuation) (z : List Valuation) → list_any F (suffixes (z ++ w ∷ [])) ≡ (list_any (λ y. F (y ++ w ∷ [])) (suffixes z) || F [])
-any-suffixes F w [] = ap (λ b. F (w ∷ []) || b) (or_false (F [])) ∙ sym (ap (λ b. b || F []) (or_false (F (w ∷ []))))
+any-suffixes F w [] = ap (λ b. F (w ∷ []) || b) (or-false (F [])) ∙ sym (ap (λ b. b || F []) (or-false (F (w ∷ []))))
 any-suffixes F w (v ∷ z) = ap (λ b. F ((v ∷ z) ++ w ∷ []) || b) (any-suffixes F w z) ∙ sym (or_assoc (F ((v ∷ z) ++ w ∷ [])) (list_any (λ y. F (y ++ w ∷ [])) (suffixes z)) (F []))
 
 -- what differs at the empty suffix alone
 any-ends : (G H : List Valuation → Bool) (x : Bool) → ((v : Valuation) (y : List Valuation) → G (v ∷ y) ≡ H (v ∷ y)) → (G [] || x) ≡ H [] → (z : List Valuation) → (list_any G (suffixes z) || x) ≡ list_any H (suffixes z)
-any-ends G H x same last [] = ap (λ b. b || x) (or_false (G [])) ∙ last ∙ sym (or_false (H []))
+any-ends G H x same last [] = ap (λ b. b || x) (or-false (G [])) ∙ last ∙ sym (or-false (H []))
 any-ends G H x same last (v ∷ z) =
     or_assoc (G (v ∷ z)) (list_any G (suffixes z)) x ∙ ap (λ b. b || (list_any G (suffixes z) || x)) (same v z) ∙ ap (λ b. H (v ∷ z) || b) (any-ends G H x same last z)
-
-length-more : (z : List Valuation) (w : Valuation) → length (z ++ w ∷ []) ≡ suc (length z)
-length-more [] w = refl
-length-more (v ∷ z) w = ap suc (length-more z w)
 
 module _ (p : CoreProgram) (w : Valuation) (t : ℕ) where
   module _ (P : Closure → Bool) where
@@ -85,7 +66,7 @@ module _ (p : CoreProgram) (w : Valuation) (t : ℕ) where
     else_any false F G xs ys h = h
 
     no_stay : (n : ℕ) (b : List ℕ) (a : Agent) → agent_at p.nodes n ≡ Next a → list_any P (starts p w t (closure (suc n) b)) ≡ after (closure (suc n) b)
-    no_stay n b a e = sym (ap (λ x. list_any P (starts p w t (closure (suc n) b)) || (is_hence x && P (closure (suc n) b))) e ∙ or_false (list_any P (starts p w t (closure (suc n) b))))
+    no_stay n b a e = sym (ap (λ x. list_any P (starts p w t (closure (suc n) b)) || (is_hence x && P (closure (suc n) b))) e ∙ or-false (list_any P (starts p w t (closure (suc n) b))))
 
     stay : (n : ℕ) (b : List ℕ) (a : Agent) → agent_at p.nodes n ≡ Hence a → (list_any P (starts p w t (closure (suc n) b)) || P (closure (suc n) b)) ≡ after (closure (suc n) b)
     stay n b a e = sym (ap (λ x. list_any P (starts p w t (closure (suc n) b)) || (is_hence x && P (closure (suc n) b))) e)
@@ -94,7 +75,7 @@ module _ (p : CoreProgram) (w : Valuation) (t : ℕ) where
         → list_any P (started p (z ++ w ∷ []) a n b s) ≡ list_any (after_by z) (started p z a n b s)
     started-more a [] n b s at e =
         let now : s ≡ t = omega arith in
-        ap (λ (k : ℕ). list_any P (started p (w ∷ []) a n b k)) now ∙ ap (λ x. list_any P (started p (w ∷ []) x n b t)) (sym (listed_tree p.nodes n a at)) ∙ sym (or_false (list_any P (starts p w t (closure n b))))
+        ap (λ (k : ℕ). list_any P (started p (w ∷ []) a n b k)) now ∙ ap (λ x. list_any P (started p (w ∷ []) x n b t)) (sym (listed_tree p.nodes n a at)) ∙ sym (or-false (list_any P (starts p w t (closure n b))))
     started-more Skip (v ∷ z) n b s at e = refl
     started-more (Tell c) (v ∷ z) n b s at e = refl
     started-more (Par l r) (v ∷ z) n b s at e =
@@ -113,16 +94,16 @@ module _ (p : CoreProgram) (w : Valuation) (t : ℕ) where
     started-more (Hence a) (v ∷ z) n b s at e =
         let from : List Valuation → ℕ = λ y. s + 1 + length (z ++ w ∷ []) - length y in
         let begun : List Valuation → ℕ = λ y. s + 1 + length z - length y in
-        let long = length-more z w in
-        let shift : (y : List Valuation) → from (y ++ w ∷ []) ≡ begun y = λ y. let m = length-more y w in omega arith in
+        let long = length-append z (w ∷ []) in
+        let shift : (y : List Valuation) → from (y ++ w ∷ []) ≡ begun y = λ y. let m = length-append y (w ∷ []) in omega arith in
         any-flat P (λ y. started p y a (suc n) b (from y)) (suffixes (z ++ w ∷ []))
         ∙ any-suffixes (λ y. list_any P (started p y a (suc n) b (from y))) w z
-        ∙ ap (λ x. list_any (λ y. list_any P (started p (y ++ w ∷ []) a (suc n) b (from (y ++ w ∷ [])))) (suffixes z) || x) (or_false (P (closure (suc n) b)))
+        ∙ ap (λ x. list_any (λ y. list_any P (started p (y ++ w ∷ []) a (suc n) b (from (y ++ w ∷ [])))) (suffixes z) || x) (or-false (P (closure (suc n) b)))
         ∙ ap (λ x. x || P (closure (suc n) b)) (any-each (λ y. list_any P (started p (y ++ w ∷ []) a (suc n) b (from (y ++ w ∷ [])))) (λ y. list_any (after_by y) (started p y a (suc n) b (begun y))) (suffixes z)
         (Each-map (λ y. length y ≤ length z) (λ y. list_any P (started p (y ++ w ∷ []) a (suc n) b (from (y ++ w ∷ []))) ≡ list_any (after_by y) (started p y a (suc n) b (begun y)))
         (λ y le. ap (λ (k : ℕ). list_any P (started p (y ++ w ∷ []) a (suc n) b k)) (shift y) ∙ started-more a y (suc n) b (begun y) (stands-tail at) (omega arith)) (suffixes z) (suffixes-length z)))
         ∙ any-ends (λ y. list_any (after_by y) (started p y a (suc n) b (begun y))) (λ y. list_any after (started p y a (suc n) b (begun y))) (P (closure (suc n) b)) (λ u y. refl)
-        (ap (λ x. x || P (closure (suc n) b)) (or_false (list_any P (starts p w t (closure (suc n) b)))) ∙ stay n b a (listed_tree p.nodes n (Hence a) at) ∙ sym (or_false (after (closure (suc n) b)))) z
+        (ap (λ x. x || P (closure (suc n) b)) (or-false (list_any P (starts p w t (closure (suc n) b)))) ∙ stay n b a (listed_tree p.nodes n (Hence a) at) ∙ sym (or-false (after (closure (suc n) b)))) z
         ∙ sym (any-flat after (λ y. started p y a (suc n) b (begun y)) (suffixes z))
 
 kept_any : (P : Closure → Bool) (r : Closure) (xs : List Closure) (y : Bool) → list_any P xs ≡ y → (b : Bool) → list_any P (cond b (r ∷ xs) xs) ≡ ((b && P r) || y)
@@ -144,23 +125,17 @@ next-any p w t P rs =
     ∙ ap (λ x. x || list_any (λ r. list_any P (starts p w t r)) rs) (sym (any-filter (stays p) P rs))
     ∙ ap (λ x. list_any P (filter (stays p) rs) || x) (sym (any-flat P (starts p w t) rs))
     ∙ sym (list_any-append P (filter (stays p) rs) (flat_map (starts p w t) rs))
-  where
-    or_comm : (a b : Bool) → (a || b) ≡ (b || a)
-    or_comm true true = refl
-    or_comm true false = refl
-    or_comm false true = refl
-    or_comm false false = refl
 
 more : (p : CoreProgram) (z : List Valuation) (w : Valuation) → IsListing p.nodes → (P : Closure → Bool) → list_any P (started p (z ++ w ∷ []) (agent_at p.nodes 0) 0 [] 0) ≡ list_any (after p w (length z) P) (started p z (agent_at p.nodes 0) 0 [] 0)
-more p [] w pre P =
+more p [] w tree P =
     let start : 0 + 0 ≡ 0 = omega arith in
-    started-more p w 0 P (agent_at p.nodes 0) [] 0 [] 0 ((root_place p.nodes pre).listed) start ∙ ap (λ x. x || false) (sym (or_false (list_any P (starts p w 0 (closure 0 [])))))
-more p (v ∷ z) w pre P =
+    started-more p w 0 P (agent_at p.nodes 0) [] 0 [] 0 ((root_place p.nodes tree).listed) start ∙ ap (λ x. x || false) (sym (or-false (list_any P (starts p w 0 (closure 0 [])))))
+more p (v ∷ z) w tree P =
     let start : 0 + length (v ∷ z) ≡ length (v ∷ z) = omega arith in
-    started-more p w (length (v ∷ z)) P (agent_at p.nodes 0) (v ∷ z) 0 [] 0 ((root_place p.nodes pre).listed) start
+    started-more p w (length (v ∷ z)) P (agent_at p.nodes 0) (v ∷ z) 0 [] 0 ((root_place p.nodes tree).listed) start
 
 -- the roots after one more closed store, from the roots before it
 pub roots-next : (p : CoreProgram) (z : List Valuation) (w : Valuation) → IsListing p.nodes → roots p (z ++ w ∷ []) ≡ sorted (next_of p w (length z) (roots p z))
-roots-next p z w pre =
+roots-next p z w tree =
     same_sorted (started p (z ++ w ∷ []) (agent_at p.nodes 0) 0 [] 0) (next_of p w (length z) (roots p z)) (λ P.
-    more p z w pre P ∙ sym (sorted-any (after p w (length z) P) (started p z (agent_at p.nodes 0) 0 [] 0)) ∙ next-any p w (length z) P (roots p z))
+    more p z w tree P ∙ sym (sorted-any (after p w (length z) P) (started p z (agent_at p.nodes 0) 0 [] 0)) ∙ next-any p w (length z) P (roots p z))

@@ -5,6 +5,7 @@ use Rattle.std.specs.List.{list_all}
 use Rattle.std.proofs.lemmas.List.Folds.{list_all-append}
 use Rattle.std.specs.declared.cmp.Ordering.{Ordering}
 use Rattle.std.specs.declared.cmp.Ordering.TheVariants.{Less, Equal, Greater}
+use Rattle.std.proofs.Math.Bool.{and-true, and_self_left}
 use Rattle.token_system.specs.Stores.{Valuation}
 use Rattle.agent_core.specs.declared.node.Closure.{Closure}
 use Rattle.agent_core.specs.declared.node.Node.{Node}
@@ -19,21 +20,9 @@ use Rattle.agent_core.specs.RootOutputs.{roots_rest}
 use Rattle.agent_core.proofs.Standing.{StandsAt, stands-tail}
 use Rattle.agent_core.proofs.ListingTrees.{left_listed, right_listed, listed_tree}
 use Rattle.agent_core.proofs.Places.{root_place}
+use Rattle.agent_laws.proofs.Booleans.{and_swap}
 use Rattle.agent_laws.proofs.Eachs.{Each-map}
 use Rattle.agent_laws.proofs.Sorting.{closure_anti}
-
-and_true : (x : Bool) → x ≡ (x && true)
-and_true true = refl
-and_true false = refl
-
-and_twice : (a x : Bool) → (a && x) ≡ (a && (a && x))
-and_twice true x = refl
-and_twice false x = refl
-
-and_swap : (a b x : Bool) → (a && (b && x)) ≡ (b && (a && x))
-and_swap true b x = refl
-and_swap false true x = refl
-and_swap false false x = refl
 
 -- each suffix is at most as long
 longer : (n : ℕ) (ys : List (List Valuation)) → Each (λ y. length y ≤ n) ys → Each (λ y. length y ≤ suc n) ys
@@ -57,7 +46,7 @@ module _ (p : CoreProgram) (u v : Valuation) (t : ℕ) where
       go : (o : Ordering) → closure_cmp r first ≡ o → all_rest (put r rest) ≡ (root_rests r && all_rest rest)
           → all_rest (put_by o r first rest (put r rest)) ≡ (root_rests r && (root_rests first && all_rest rest))
       go Less e ih = refl
-      go Equal e ih = and_twice (root_rests first) (all_rest rest) ∙ ap (λ x. root_rests x && (root_rests first && all_rest rest)) (sym (closure_anti r first e))
+      go Equal e ih = sym (and_self_left (root_rests first) (all_rest rest)) ∙ ap (λ x. root_rests x && (root_rests first && all_rest rest)) (sym (closure_anti r first e))
       go Greater e ih = ap (λ x. root_rests first && x) ih ∙ and_swap (root_rests first) (root_rests r) (all_rest rest)
 
   pub sorted-rests : (rs : List Closure) → all_rest (sorted rs) ≡ all_rest rs
@@ -83,7 +72,7 @@ module _ (p : CoreProgram) (u v : Valuation) (t : ℕ) where
       → agent_obs p u v z a b s ≡ all_rest (started p z a n b s)
   started-rests a [] n b s at e =
       let now : s ≡ t = omega arith in
-      ap (λ m. agent_rests p m v a b u) now ∙ ap (λ x. agent_rests p t v x b u) (sym (listed_tree p.nodes n a at)) ∙ and_true (rests p n b t u v)
+      ap (λ m. agent_rests p m v a b u) now ∙ ap (λ x. agent_rests p t v x b u) (sym (listed_tree p.nodes n a at)) ∙ sym (and-true (rests p n b t u v))
   started-rests Skip (w ∷ z) n b s at e = refl
   started-rests (Tell c) (w ∷ z) n b s at e = refl
   started-rests (Par l r) (w ∷ z) n b s at e =
@@ -100,6 +89,6 @@ module _ (p : CoreProgram) (u v : Valuation) (t : ℕ) where
 
 -- what is seen over z is what the closures that are started now do
 pub obs-roots : (p : CoreProgram) (z : List Valuation) (u v : Valuation) → IsListing p.nodes → obs p 0 [] 0 z u v ≡ roots_rest p (roots p z) (length z) u v
-obs-roots p z u v pre =
+obs-roots p z u v tree =
     let start : 0 + length z ≡ length z = omega arith in
-    started-rests p u v (length z) (agent_at p.nodes 0) z 0 [] 0 ((root_place p.nodes pre).listed) start ∙ sym (sorted-rests p u v (length z) (started p z (agent_at p.nodes 0) 0 [] 0))
+    started-rests p u v (length z) (agent_at p.nodes 0) z 0 [] 0 ((root_place p.nodes tree).listed) start ∙ sym (sorted-rests p u v (length z) (started p z (agent_at p.nodes 0) 0 [] 0))

@@ -1,5 +1,5 @@
 -- To each list of inputs belongs exactly one run.
-use Rattle.std.proofs.Common.{◌≡◌, ◌⊎◌, inl, inr, ℕ, zero, suc, ◌<◌, ◌≤◌, List, [], ◌∷◌, ◌++◌, length, take, get_or, Some, refl, sym, ap, ◌∙◌, subst, arith}
+use Rattle.std.proofs.Common.{◌≡◌, ◌⊎◌, inl, inr, ℕ, zero, suc, ◌<◌, ◌≤◌, List, [], ◌∷◌, ◌++◌, length, length-append, take, get_or, Some, refl, sym, ap, ◌∙◌, subst, arith}
 use Rattle.std.specs.Prelude.{slice_get, All}
 use Rattle.std.specs.FinMap.{empty}
 use Rattle.std.proofs.Math.Seq.{take-suc, take-length, take-append_seam}
@@ -11,6 +11,7 @@ use Rattle.agent_core.specs.Stores.{IsStore}
 use Rattle.agent_core.specs.Facts.{IsProgram}
 use Rattle.agent_core.specs.Outputs.{IsOutput, IsRun}
 use Rattle.agent_core.specs.Strata.{Stratifies}
+use Rattle.agent_core.proofs.Standing.{StandsAt, stands-head}
 use Rattle.agent_laws.proofs.ProgramOutputs.{has_output, one_output}
 
 front : {X : Type 0} (xs : List X) (y : X) (m : ℕ) → m < length xs → slice_get (xs ++ y ∷ []) m ≡ slice_get xs m
@@ -18,20 +19,16 @@ front [] y m lt = absurd (omega arith)
 front (x ∷ xs) y zero lt = refl
 front (x ∷ xs) y (suc m) lt = front xs y m (omega arith)
 
-end : {X : Type 0} (xs : List X) (y : X) → slice_get (xs ++ y ∷ []) (length xs) ≡ Some y
-end [] y = refl
-end (x ∷ xs) y = end xs y
+at_end : {X : Type 0} (xs : List X) (y : X) → slice_get (xs ++ y ∷ []) (length xs) ≡ Some y
+at_end {X} xs y = let s : StandsAt X (xs ++ y ∷ []) (length xs) (y ∷ []) = record { front = xs; back = []; whole = refl; long = refl } in stands-head s
 
-length-push : {X : Type 0} (xs : List X) (y : X) → length (xs ++ y ∷ []) ≡ suc (length xs)
-length-push [] y = refl
-length-push (x ∷ xs) y = ap suc (length-push xs y)
-
+-- a run with one instant more
 pub run-push : (p : CoreProgram) (ins outs : List Valuation) (i v : Valuation) → IsRun p ins outs → IsOutput p outs i v → IsRun p (ins ++ i ∷ []) (outs ++ v ∷ [])
 run-push p ins outs i v run out = record {
-  whole = length-push outs v ∙ ap suc run.whole ∙ sym (length-push ins i);
+  whole = let w = run.whole in omega (arith, length-append outs (v ∷ []), length-append ins (i ∷ []));
   each = λ n j x ej ex.
       let within = slice_get_within (outs ++ v ∷ []) n x ex in
-      let long = length-push outs v in
+      let long = length-append outs (v ∷ []) in
       go n j x ej ex (split n (length outs) (omega arith));
 }
   where
@@ -47,8 +44,8 @@ run-push p ins outs i v run out = record {
         subst (λ (z : List Valuation). IsOutput p z j x) (sym (take-append-le n outs (v ∷ []) (let h : n ≤ length outs = omega arith in h)))
         (run.each n j x (sym (front ins i n long) ∙ ej) (sym (front outs v n lt) ∙ ex))
     go n j x ej ex (inr e) =
-        let last_in : slice_get (ins ++ i ∷ []) n ≡ Some i = ap (slice_get (ins ++ i ∷ [])) (e ∙ run.whole) ∙ end ins i in
-        let last_out : slice_get (outs ++ v ∷ []) n ≡ Some v = ap (slice_get (outs ++ v ∷ [])) e ∙ end outs v in
+        let last_in : slice_get (ins ++ i ∷ []) n ≡ Some i = ap (slice_get (ins ++ i ∷ [])) (e ∙ run.whole) ∙ at_end ins i in
+        let last_out : slice_get (outs ++ v ∷ []) n ≡ Some v = ap (slice_get (outs ++ v ∷ [])) e ∙ at_end outs v in
         let a : i ≡ j = some i j (sym last_in ∙ ej) in
         let b : v ≡ x = some v x (sym last_out ∙ ex) in
         subst (λ (z : List Valuation). IsOutput p z j x) (sym (ap (λ (k : ℕ). take k (outs ++ v ∷ [])) e ∙ take-append_seam outs (v ∷ [])))

@@ -6,12 +6,14 @@ use Rattle.std.specs.FinMap as finmap
 use Rattle.std.specs.FinMap.{IsAntisymmetric, slice_cmp-IsAntisymmetric, nat_cmp-IsAntisymmetric}
 use Rattle.std.specs.Cmp.{IsTotalOrder}
 use Rattle.std.proofs.lemmas.Cmp.{on_total, nat_list_cmp_total}
+use Rattle.std.proofs.Math.Bool.{or_self_left}
 use Rattle.std.specs.Ordering.{eq_by_cmp}
 use Rattle.std.specs.declared.cmp.Ordering.{Ordering}
 use Rattle.std.specs.declared.cmp.Ordering.TheVariants.{Less, Equal, Greater}
 use Rattle.agent_core.specs.declared.node.Closure.{Closure}
 use Rattle.agent_core.specs.Closures.{closure_key, closure_cmp, put_by, put, sorted}
 use Rattle.agent_core.specs.Strata.{Each}
+use Rattle.agent_laws.proofs.Booleans.{or_swap}
 
 pub closure_total : IsTotalOrder closure_cmp
 closure_total = on_total closure_key nat_list_cmp_total
@@ -44,11 +46,6 @@ each_put P r (first ∷ rest) h g = go (closure_cmp r first) (each_put P r rest 
 pub each_sorted : (P : Closure → Type 0) (rs : List Closure) → Each P rs → Each P (sorted rs)
 each_sorted P [] h = tt
 each_sorted P (r ∷ rs) h = each_put P r (sorted rs) h.0 (each_sorted P rs h.1)
-
-or_swap : (x y z : Bool) → (x || (y || z)) ≡ (y || (x || z))
-or_swap true true z = refl
-or_swap true false z = refl
-or_swap false y z = refl
 
 -- SORTED LISTS AS MAPS
 
@@ -102,13 +99,9 @@ put-any : (F : Closure → Bool) (r : Closure) (rs : List Closure) → list_any 
 put-any F r [] = refl
 put-any F r (first ∷ rest) = go (closure_cmp r first) refl (put-any F r rest)
   where
-    twice : (a x : Bool) → (a || x) ≡ (a || (a || x))
-    twice true x = refl
-    twice false x = refl
-
     go : (o : Ordering) → closure_cmp r first ≡ o → list_any F (put r rest) ≡ (F r || list_any F rest) → list_any F (put_by o r first rest (put r rest)) ≡ (F r || (F first || list_any F rest))
     go Less e ih = refl
-    go Equal e ih = twice (F first) (list_any F rest) ∙ ap (λ x. F x || (F first || list_any F rest)) (sym (closure_anti r first e))
+    go Equal e ih = sym (or_self_left (F first) (list_any F rest)) ∙ ap (λ x. F x || (F first || list_any F rest)) (sym (closure_anti r first e))
     go Greater e ih = ap (λ x. F first || x) ih ∙ or_swap (F first) (F r) (list_any F rest)
 
 pub sorted-any : (F : Closure → Bool) (rs : List Closure) → list_any F (sorted rs) ≡ list_any F rs
