@@ -53,10 +53,6 @@ module _ (p : CoreProgram) (w : Valuation) (t : ℕ) where
     after_by [] r = list_any P (starts p w t r)
     after_by (v ∷ z) r = after r
 
-    if_any : (e : Bool) (F : Closure → Bool) (xs : List Closure) (b : Bool) → b ≡ list_any F xs → (if e then b else false) ≡ list_any F (if e then xs else [])
-    if_any true F xs b h = h
-    if_any false F xs b h = refl
-
     then_any : (e : Bool) (F G : Closure → Bool) (xs ys : List Closure) → list_any F xs ≡ list_any G ys → list_any F (if e then xs else []) ≡ list_any G (if e then ys else [])
     then_any true F G xs ys h = h
     then_any false F G xs ys h = refl

@@ -16,6 +16,7 @@ use Rattle.agent_laws.proofs.Eachs.{Each-append, Each-flat, Each-if}
 use Rattle.agent_laws.proofs.Sorting.{each_sorted}
 
 module _ (p : CoreProgram) where
+  -- it is a closure of the program
   abbrev pub IsOwn : Closure → Type 0
   IsOwn r = IsClosure p r.node r.births
 
