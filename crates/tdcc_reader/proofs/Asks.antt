@@ -14,11 +14,11 @@ use Rattle.tdcc_reader.specs.Surfaces.{Placed, placed, token_ask, ask_of, unit_c
 use Rattle.tdcc_reader.specs.Drafts.{Entry, entry, drafts, IsAsk, IsWhole}
 
 -- none is found only where neither is
-none_left : {A : Type 0} (f g : Option A) → first f g ≡ None → f ≡ None
+pub none_left : {A : Type 0} (f g : Option A) → first f g ≡ None → f ≡ None
 none_left None g e = refl
 none_left (Some a) g e = e
 
-none_right : {A : Type 0} (f g : Option A) → first f g ≡ None → g ≡ None
+pub none_right : {A : Type 0} (f g : Option A) → first f g ≡ None → g ≡ None
 none_right None g e = e
 none_right (Some a) g e = cc
 
@@ -45,14 +45,14 @@ constraint_some s (Both t c) n at e =
     let (v, w) = constraint_some s c (n + 1) (at + token_width t + 1) (none_right (token_limit n at) (constraint_limit c (n + 1) (at + token_width t + 1)) e) in
     let l = length-append (token_ask s t) (ask_of s c) in (omega arith, omega arith)
 
-ask_kept : (s : List Placed) (c : Constraint) (at : ℕ) → constraint_limit c 0 at ≡ None → IsAsk (ask_of s c)
+pub ask_kept : (s : List Placed) (c : Constraint) (at : ℕ) → constraint_limit c 0 at ≡ None → IsAsk (ask_of s c)
 ask_kept s c at e = let (x, y) = constraint_some s c 0 at e in (x, omega arith)
 
 abbrev UnitWhole : Unit' → Type 0
 UnitWhole u = (s : List Placed) (m d at : ℕ) → unit_limit u d at ≡ None → All IsWhole (drafts (unit_tree u s m))
 
 -- behind the limit on depth
-inner : (d at : ℕ) (g : Option Limit) → first (deep_limit d at) g ≡ None → g ≡ None
+pub inner : (d at : ℕ) (g : Option Limit) → first (deep_limit d at) g ≡ None → g ≡ None
 inner d at g e = none_right (deep_limit d at) g e
 
 mutual
