@@ -1,4 +1,4 @@
-use Rattle.std.proofs.Common.{◌≡◌, ◌≤◌, length, sym, ◌∙◌, subst}
+use Rattle.std.proofs.Common.{◌≡◌, ◌≤◌, length, ap, arith, sym, ◌∙◌, subst}
 use Rattle.std.specs.Prelude.{All, map}
 use Rattle.agent_core.specs.Programs.{CoreProgram}
 use Rattle.derived_forms.specs.Forms.{IsCoreForm, form_of}
@@ -14,8 +14,8 @@ unreachable-requires c =
     let p : CoreProgram = record { cells = c.in_ok-copies.copies.items; declared = c.declared.result; nodes = c.in_ok-nodes.nodes.items } in
     let forms : map form_of p.nodes ≡ c.args.surface.now.forms = c.in_ok-nodes.ensures ∙ c.forms-forms.ensures.all in
     let cells : p.cells ≡ c.args.surface.now.cells = c.in_ok-copies.ensures ∙ c.cells-cells.ensures.all in
-    let few_forms : length c.args.surface.now.forms ≤ 4096 = subst (λ l. length l ≤ 4096) c.forms-forms.ensures.all c.if-forms-gt-MAX_NODES.false in
-    let few_cells : length c.args.surface.now.cells ≤ 1024 = subst (λ l. length l ≤ 1024) c.cells-cells.ensures.all c.if-cells-gt-MAX_CELLS.false in
+    let few_forms : length c.args.surface.now.forms ≤ 4096 = let e = ap length c.forms-forms.ensures.all in let h = c.if-forms-gt-MAX_NODES.false in omega arith in
+    let few_cells : length c.args.surface.now.cells ≤ 1024 = let e = ap length c.cells-cells.ensures.all in let h = c.if-cells-gt-MAX_CELLS.false in omega arith in
     let h = c.in-None.ensures.exactly.1 (made_is_program c.args.surface.now p c.forms-forms.ensures.surface forms cells c.declared.ensures.number few_forms few_cells) in
     absurd (cc h)
 
