@@ -18,8 +18,8 @@ pub record IsExpansion (s : SurfaceProgram) (p : CoreProgram) : Type 0 where
   pub cells : p.cells ≡ s.cells
   pub declared : p.declared ≡ s.declared
 
--- the core program would have more than 4,096 nodes, as many as there are forms, or it would not, and more than 1,024
--- cells; want of memory says nothing of the surface
+-- The core program has as many nodes as the surface has forms. It would have more than 4,096; or it would not, and it
+-- would have more than 1,024 cells. Want of memory says nothing of the surface.
 abbrev pub Refuses : SurfaceProgram → ExpandFault → Type 0
 Refuses s TooManyNodes = 4096 < length s.forms
 Refuses s TooManyCells = (length s.forms ≤ 4096) × (1024 < length s.cells)

@@ -101,6 +101,9 @@ pub fn expand(alloc: Global, surface: &Surface) -> Result<Program, ExpandFault>
     // Where the sizes are within their limits, the program is made.
     ensures only { length surface.now.forms ≤ 4096 → length surface.now.cells ≤ 1024
         → IfErr result (λ fault. fault ≡ ExpandFault.Memory) }
+    // Want of memory is told only of a surface that is not too large.
+    ensures memory { IfErr result (λ fault. fault ≡ ExpandFault.Memory
+        → (length surface.now.forms ≤ 4096) × (length surface.now.cells ≤ 1024)) }
 {
     let forms = surface.forms();
     let cells = surface.cells();
