@@ -1,11 +1,5 @@
-pub mod FirstWords
-pub mod Sketches
-pub mod FormComplete
-pub mod FormSound
-pub mod Cuts
-pub mod TakenWords
-pub mod FormPrograms
-pub mod Finishing
+pub mod PlainListings
+pub mod AcceptedPrograms
 pub mod Walking
 pub mod PlainOutputs
 pub mod Missing

@@ -1,5 +1,5 @@
 -- The tokens that a line names fit their cells, and the store of them is the line's input.
-use Rattle.std.proofs.Common.{◌≡◌, ℕ, ◌<◌, Bool, true, false, cond, List, [], ◌∷◌, length, take, None, Some, refl, sym, ap, ◌∙◌, subst, arith, zero, suc}
+use Rattle.std.proofs.Common.{◌≡◌, ℕ, ◌<◌, Bool, true, false, cond, List, [], ◌∷◌, length, take, None, Some, refl, sym, ap, ◌∙◌, subst, arith, zero, suc, pos}
 use Rattle.std.specs.Prelude.{Option, IsTrue, nat_eq, slice_get}
 use Rattle.std.specs.Cmp.Lexicographic.{pointwise}
 use Rattle.std.specs.FinMap.{get, empty, insert, get-empty, get-insert}
@@ -29,9 +29,12 @@ use Rattle.agent_core.proofs.OneStore.{Below-antisym}
 use Rattle.token_system.proofs.Telling.{equal_names}
 use Rattle.agent_core.proofs.Tellings.{empty-IsStore, empty-Below, tell_all-least, tell_all-entails}
 use Rattle.tdcc_tool.specs.Signals.{HasSignalsOnly}
-use Rattle.tdcc_tool.specs.FirstForm.{signal_decl}
 use Rattle.tdcc_tool.specs.Inputs.{pieces, cell_named, AreNamed, IsNamed, GivesInput}
 use Rattle.tdcc_tool.proofs.DeclaredTokens.{in_scope}
+
+-- some declaration, for places where there is none
+some_decl : CellDecl
+some_decl = record { name = []; cell = record { kind = kinds.Signal; lo = pos 0; hi = pos 0; lawful = refl } }
 
 -- an element of a front
 taken_at : (n i : ℕ) (cells : List CellDecl) → i < length (take n cells) → (i < n) × (d : CellDecl) × (slice_get cells i ≡ Some d)
@@ -46,7 +49,7 @@ fits_signal k e = ap (λ (x : Kind). fits_kind x On) e
 -- a declared signal, told on
 named_fits : (p : CoreProgram) → HasSignalsOnly p → (name : List ℕ) (pair : ℕ × Token) → cell_named p name ≡ Some pair.0 → pair.1 ≡ On → TokenFits p [] pair
 named_fits p signals name pair found on =
-    let within = (position-Some (λ (d : CellDecl). pointwise nat_eq d.name name) (take p.declared p.cells) pair.0 (signal_decl []) found).0 in
+    let within = (position-Some (λ (d : CellDecl). pointwise nat_eq d.name name) (take p.declared p.cells) pair.0 some_decl found).0 in
     let at = taken_at p.declared pair.0 p.cells within in
     record {
       decl = at.1;

@@ -12,12 +12,10 @@ use Rattle.agent_core.specs.Programs.{CoreProgram}
 use Rattle.agent_core.specs.Facts.{IsProgram}
 use Rattle.agent_core.specs.Outputs.{IsRun}
 use Rattle.tdcc_tool.specs.Plain.{IsPlain}
-use Rattle.tdcc_tool.specs.FirstForm.{Reads}
 use Rattle.tdcc_tool.specs.Inputs.{GivesInput}
 use Rattle.tdcc_tool.specs.Answers.{GiveInputs, Stops, Ends, RunAnswer, AnswersRun, HaveOneAnswer, store_lines}
-use Rattle.tdcc_tool.proofs.FormPrograms.{reads_plain, form_program}
 use Rattle.tdcc_tool.proofs.NamedTokens.{gives-one}
-use Rattle.tdcc_tool.proofs.TakenWords.{reads-one}
+use Rattle.tdcc_tool.proofs.AcceptedPrograms.{accepted_program, one_accepted}
 use Rattle.tdcc_tool.specs.Laws.{AcceptedHaveOneOutput, LaterOutputsAreInputs}
 use Rattle.tdcc_tool.proofs.PlainOutputs.{later_output}
 use Rattle.tdcc_tool.proofs.Later.{plain_momentary}
@@ -39,7 +37,7 @@ module _ (p : CoreProgram) where
   within (l ∷ lines) [] all = omega arith
   within (l ∷ lines) (i ∷ ins) all = let h : length ins ≤ length lines = within lines ins all.2 in omega arith
 
-  no_stop : (n : ℕ) (line : List ℕ) → n < 65536 → (i : Valuation) × GivesInput p line i × (length line ≤ 32768) → Stops p n line → ⊥
+  pub no_stop : (n : ℕ) (line : List ℕ) → n < 65536 → (i : Valuation) × GivesInput p line i × (length line ≤ 32768) → Stops p n line → ⊥
   no_stop n line few (i, read, short) (inl long) = omega arith
   no_stop n line few (i, read, short) (inr (inl many)) = omega arith
   no_stop n line few (i, read, short) (inr (inr none)) = none i read
@@ -116,18 +114,14 @@ module _ (p : CoreProgram) where
         let end = same_end lines (length b.ins) s s' e e' (subst (λ (k : ℕ). Ends p lines k s e) count a.ends) b.ends in
         (end.0, a.written ∙ ap (λ (vs : List Valuation). store_lines p vs) outs ∙ sym b.written, end.1)
 
--- the program of a text
-reads_program : (text : List ℕ) (p : CoreProgram) → Reads text p → IsProgram p
-reads_program text p r = subst IsProgram (sym r.means) (form_program r.form r.limits)
-
 -- the answer of `run` is one
 pub one_answer_run : (bytes : List ℕ) (s s' : Status) (o o' e e' : List ℕ) → AnswersRun bytes s o e → AnswersRun bytes s' o' e' → (s ≡ s') × (o ≡ o') × (e ≡ e')
 one_answer_run bytes s s' o o' e e' (inl x) (inl y) = (x.is ∙ sym y.is, x.nothing ∙ sym y.nothing, x.told ∙ sym y.told)
 one_answer_run bytes s s' o o' e e' (inl x) (inr y) = absurd (x.none y.0 y.1)
 one_answer_run bytes s s' o o' e e' (inr x) (inl y) = absurd (y.none x.0 x.1)
 one_answer_run bytes s s' o o' e e' (inr x) (inr y) =
-    let same : y.0 ≡ x.0 = reads-one (text_of bytes) y.0 x.0 y.1.1 x.1.1 in
-    one_run_answer x.0 (reads_program (text_of bytes) x.0 x.1.1) (reads_plain (text_of bytes) x.0 x.1.1) (lines_of (trace_of bytes)) s s' o o' e e' x.2
+    let same : y.0 ≡ x.0 = one_accepted (text_of bytes) y.0 x.0 y.1 x.1 in
+    one_run_answer x.0 (accepted_program (text_of bytes) x.0 x.1) x.1.form.plain (lines_of (trace_of bytes)) s s' o o' e e' x.2
     (subst (λ (p : CoreProgram). RunAnswer p (lines_of (trace_of bytes)) s' o' e') same y.2)
 
 -- the answer is one
@@ -140,11 +134,11 @@ one_answer words bytes s s' o o' e e' (inr x) (inr y) = (x.is ∙ sym y.is, x.no
 -- the program of an accepted text has one output
 pub accepted_one_output : (text : List ℕ) → AcceptedHaveOneOutput text
 accepted_one_output text p a closed i store =
-    let is = reads_program text p a.1 in
-    let pl = reads_plain text p a.1 in
+    let is = accepted_program text p a in
+    let pl = a.form.plain in
     let v = plain_has_output p is pl closed i store in
     record { output = v.0; is = v.1; only = λ w out. plain_one p is pl closed i v.0 w v.1 out }
 
 -- which at later instants is the input
 pub accepted_later : (text : List ℕ) → LaterOutputsAreInputs text
-accepted_later text p a first closed i store = later_output p first closed i (plain_momentary (agent_at p.nodes 0) (reads_plain text p a.1)) store
+accepted_later text p a first closed i store = later_output p first closed i (plain_momentary (agent_at p.nodes 0) a.form.plain) store

@@ -10,7 +10,7 @@ use Rattle.tdcc_base.specs.declared.status.Status.TheVariants as statuses
 use Rattle.tdcc_base.specs.declared.stops.LineEnd.TheVariants as ends
 use Rattle.tdcc_base.specs.declared.stops.ReadStop.TheVariants as stops
 use Rattle.tdcc_base.specs.declared.stops.TextEnd.{TextEnd}
-use Rattle.tdcc_base.specs.Texts.{ReadsText}
+use Rattle.tdcc_base.specs.Texts.{ReadsText, text_of}
 use Rattle.tdcc_base.specs.Lines.{first_line, after_line, onto_first, lines_of, ReadsLine}
 use Rattle.token_system.specs.Stores.{Valuation}
 use Rattle.agent_core.specs.Programs.{CoreProgram}
@@ -18,8 +18,10 @@ use Rattle.agent_core.specs.Outputs.{IsRun}
 use Rattle.tdcc_tool.specs.Inputs.{GivesInput}
 use Rattle.tdcc_tool.specs.StoreLines.{store_line}
 use Rattle.tdcc_tool.specs.Messages.{trace_line, program_line}
-use Rattle.tdcc_tool.specs.Answers.{Accepts, AnswersRun, GiveInputs, Stops, Ends, RunAnswer, store_lines}
+use Rattle.tdcc_tool.specs.Accepted.{Accepts}
+use Rattle.tdcc_tool.specs.Answers.{AnswersRun, GiveInputs, Stops, Ends, RunAnswer, store_lines}
 use Rattle.tdcc_tool.specs.Instants.{Goes}
+use Rattle.tdcc_tool.proofs.AcceptedPrograms.{accepted_short}
 use Rattle.tdcc_tool.proofs.Later.{run_goes_on}
 
 -- the run over the first n lines
@@ -184,7 +186,7 @@ refuses (Some bytes) new text end s o e r none es eo ee = inl (record { none = �
 -- a text that is too long is refused
 pub refuses_long : (start new : Option (List ℕ)) (text : List ℕ) (s : Status) (o e : List ℕ) → ReadsText start new text (Err stops.TooLong) → s ≡ statuses.Program → o ≡ [] → e ≡ program_line → IfSome start (λ bytes. AnswersRun bytes s o e)
 refuses_long None new text s o e r es eo ee = tt
-refuses_long (Some bytes) new text s o e r es eo ee = let long = r.0 in inl (record { none = λ p a. (let short = a.0 in omega arith); is = es; nothing = eo; told = ee })
+refuses_long (Some bytes) new text s o e r es eo ee = let long = r.0 in inl (record { none = λ p a. (let short = accepted_short (text_of bytes) p a in omega arith); is = es; nothing = eo; told = ee })
 
 -- the answer to the trace of a program's text is the answer to the bytes
 pub accepts : (p : CoreProgram) (start new : Option (List ℕ)) (text : List ℕ) (end : TextEnd) (s : Status) (o e : List ℕ) → ReadsText start new text (Ok end) → Accepts text p → IfSome new (λ trace. RunAnswer p (lines_of trace) s o e) → IfSome start (λ bytes. AnswersRun bytes s o e)

@@ -9,13 +9,9 @@ use Rattle.token_system.specs.Stores.{Valuation}
 use Rattle.agent_core.specs.Programs.{CoreProgram}
 use Rattle.agent_core.specs.Outputs.{IsRun}
 use Rattle.tdcc_tool.specs.Messages.{usage_line, program_line, trace_line}
-use Rattle.tdcc_tool.specs.FirstForm.{Reads}
+use Rattle.tdcc_tool.specs.Accepted.{Accepts}
 use Rattle.tdcc_tool.specs.Inputs.{GivesInput}
 use Rattle.tdcc_tool.specs.StoreLines.{store_line}
-
--- the text is within its limit of bytes, and is this program's
-abbrev pub Accepts : List ℕ → CoreProgram → Type 0
-Accepts text p = (length text ≤ 65536) × Reads text p
 
 -- each of these lines is within its limit of bytes, and gives the input at its place
 abbrev pub GiveInputs : CoreProgram → List (List ℕ) → List Valuation → Type 0

@@ -4,7 +4,7 @@ use Rattle.token_system.specs.Stores.{Valuation}
 use Rattle.agent_core.specs.Programs.{CoreProgram}
 use Rattle.agent_core.specs.Stores.{IsStore}
 use Rattle.agent_core.specs.Outputs.{IsOutput}
-use Rattle.tdcc_tool.specs.Answers.{Accepts}
+use Rattle.tdcc_tool.specs.Accepted.{Accepts}
 
 -- after the closed stores the program has exactly one output on the input
 pub record HasOneOutput (p : CoreProgram) (closed : List Valuation) (input : Valuation) : Type 0 where

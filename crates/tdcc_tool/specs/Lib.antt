@@ -1,12 +1,10 @@
 pub mod Messages
-pub mod Words
-pub mod FirstForm
-pub mod Drafts
-pub mod Drafted
 pub mod Signals
 pub mod Inputs
 pub mod StoreLines
 pub mod Plain
+pub mod Accepted
+pub mod Faults
 pub mod Walks
 pub mod Answers
 pub mod Cuts

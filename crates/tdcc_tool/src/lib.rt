@@ -2,7 +2,6 @@
 #![tactic(auto)]
 
 mod answer;
-mod draft;
 mod input;
 mod instant;
 mod laws;
@@ -12,7 +11,6 @@ mod store_line;
 #[cfg(test)]
 mod tests;
 mod top;
-mod words;
 
 pub use laws::{answer_law, output_law};
 pub use top::tdcc;

@@ -1,41 +1,103 @@
-ghost use Rattle.std.specs.Prelude.{◌≡◌, IfOk, MatchOption};
+ghost use Rattle.std.specs.Prelude.{◌≡◌, ◌↔◌, ◌<◌, ◌⊎◌, IfErr, IfOk, IsTrue, MatchOption, length};
+ghost use Rattle.std.specs.List.{list_all};
 ghost use Rattle.agent_core.specs.Programs.{CoreProgram};
-ghost use Rattle.tdcc_tool.specs.Answers.{Accepts};
-ghost use Rattle.tdcc_tool.specs.Drafted.{IsDraftOf, HasNoForm};
+ghost use Rattle.tdcc_reader.specs.Surfaces.{SurfaceProgram};
+ghost use Rattle.tdcc_reader.specs.Texts.{ReadsAs};
+ghost use Rattle.derived_forms.specs.Expansions.{IsExpansion};
+ghost use Rattle.tdcc_tool.specs.declared.answer.Stop as Stop;
+ghost use Rattle.tdcc_tool.specs.Accepted.{Accepts, IsFirstForm};
+ghost use Rattle.tdcc_tool.specs.Faults.{is_memory as is_memory_of};
+ghost use Rattle.tdcc_tool.specs.Plain.{is_plain_node};
+ghost use Rattle.tdcc_tool.specs.Signals.{is_signal_kind};
 
-use crate::draft::Draft;
-use crate::words::{after_space, first_word};
-use agent_core::Program;
+use crate::answer::Stop;
+use agent_core::{CellDecl, Node, Program};
+use derived_forms::{ExpandFault, expand};
 use std::alloc::Global;
-use token_system::Memory;
+use tdcc_reader::{ReadFault, Surface, read_program as read_surface};
+use token_system::Kind;
 
-/// Takes the words of a text one by one.
-fn read_draft(alloc: Global, text: &[u8]) -> Result<Option<Draft>, Memory>
-    ensures { IfOk result (λ found. MatchOption found (HasNoForm text.now) (λ draft. IsDraftOf text.now draft)) }
+/// Whether the node is one that the loop of a run takes.
+fn is_plain(node: &Node) -> bool
+    ensures { result ≡ is_plain_node node.now }
 {
-    let mut draft = Draft::new(alloc);
-    let mut rest = after_space(text);
-    'words: while !rest.is_empty() {
-        let Some((word, bytes, after)) = first_word(rest) else {
-            return Ok(None);
-        };
-        if !draft.take(word, bytes)? {
-            return Ok(None);
-        }
-        rest = after_space(after);
+    match node {
+        Node::Skip | Node::Tell(_) | Node::Then { .. } | Node::Par { .. } => true,
+        Node::Else { .. } | Node::New { .. } | Node::Hence { .. } | Node::Next { .. } => false,
     }
-    Ok(Some(draft))
 }
 
-/// The program of a text of the first form, where there is one.
-pub fn read_program(alloc: Global, text: &[u8]) -> Result<Option<Program>, Memory>
-    ensures { IfOk result (λ found. MatchOption found ((p : CoreProgram) → Accepts text.now p → ⊥) (λ program. Accepts text.now program)) }
+/// Whether the loop of a run takes each of the nodes.
+fn are_plain(nodes: &[Node]) -> bool
+    ensures { result ≡ list_all is_plain_node nodes.now }
 {
-    if text.len() > 65536 {
-        return Ok(None);
+    nodes.iter().all(|node| is_plain(node))
+}
+
+/// Whether each of the cells is a signal.
+fn are_signals(cells: &[CellDecl]) -> bool
+    ensures { result ≡ list_all (λ decl. is_signal_kind decl.cell.kind) cells.now }
+{
+    cells.iter().all(|decl| decl.cell.kind == Kind::Signal)
+}
+
+/// Whether a program is of the form that runs.
+fn is_first_form(program: &Program) -> bool
+    ensures { IsTrue result ↔ IsFirstForm program.now }
+{
+    are_plain(program.nodes()) && are_signals(program.cells())
+}
+
+/// Whether the refusal is want of memory.
+fn is_memory(fault: ReadFault) -> bool
+    ensures { result ≡ is_memory_of fault }
+{
+    matches!(fault, ReadFault::Memory)
+}
+
+/// The surface of a text, where the text is accepted.
+fn surface_of(alloc: Global, text: &[u8]) -> Result<Option<Surface>, Stop>
+    ensures found { IfOk result (λ found. MatchOption found ((s : SurfaceProgram) → ReadsAs text.now s → ⊥) (ReadsAs text.now)) }
+    ensures only { IfErr result (λ stop. stop ≡ Stop.Memory) }
+{
+    match read_surface(alloc, text) {
+        Ok(surface) => Ok(Some(surface)),
+        Err(fault) => {
+            if is_memory(fault) {
+                return Err(Stop::Memory);
+            }
+            Ok(None)
+        }
     }
-    match read_draft(alloc, text)? {
-        Some(draft) => draft.finish(),
-        None => Ok(None),
+}
+
+/// The core program of a surface, where it keeps the limits.
+fn program_of(alloc: Global, surface: &Surface) -> Result<Option<Program>, Stop>
+    ensures found { IfOk result (λ found. MatchOption found ((4096 < length surface.now.forms) ⊎ (1024 < length surface.now.cells)) (IsExpansion surface.now)) }
+    ensures only { IfErr result (λ stop. stop ≡ Stop.Memory) }
+{
+    match expand(alloc, surface) {
+        Ok(program) => Ok(Some(program)),
+        Err(ExpandFault::TooManyNodes) => Ok(None),
+        Err(ExpandFault::TooManyCells) => Ok(None),
+        Err(ExpandFault::Memory) => Err(Stop::Memory),
+    }
+}
+
+/// The program of a text, where the text is one that runs.
+pub fn read_program(alloc: Global, text: &[u8]) -> Result<Option<Program>, Stop>
+    ensures found { IfOk result (λ found. MatchOption found ((p : CoreProgram) → Accepts text.now p → ⊥) (λ program. Accepts text.now program)) }
+    ensures only { IfErr result (λ stop. stop ≡ Stop.Memory) }
+{
+    let Some(surface) = surface_of(alloc, text)? else {
+        return Ok(None);
+    };
+    let Some(program) = program_of(alloc, &surface)? else {
+        return Ok(None);
+    };
+    if is_first_form(&program) {
+        Ok(Some(program))
+    } else {
+        Ok(None)
     }
 }
