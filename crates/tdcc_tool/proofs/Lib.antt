@@ -13,3 +13,4 @@ pub mod RunSteps
 pub mod Texts
 pub mod OneRun
 pub mod OneAnswer
+pub mod WholeRuns

@@ -8,6 +8,7 @@ pub mod Faults
 pub mod Walks
 pub mod Answers
 pub mod Cuts
+pub mod Completeness
 pub mod Instants
 pub mod Ends
 pub mod Laws

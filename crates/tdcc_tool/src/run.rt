@@ -1,6 +1,7 @@
 ghost use Rattle.std.specs.Prelude.{◌≡◌, ◌≤◌, [], ℕ, List, length, IfOk, IfSome, OnSome, IsNone, IsErrOf, Some, string_bytes};
 ghost use Rattle.std.specs.Bool.{MatchBool};
 ghost use Rattle.tdcc_base.specs.Causes.{Rose};
+ghost use Rattle.tdcc_base.specs.Promises.{StaysSteady};
 ghost use Rattle.tdcc_base.specs.Lines.{lines_of};
 ghost use Rattle.tdcc_base.specs.Waiting.{waiting, source_of, stop_of, LinesReady, IsFirst, name_of};
 ghost use Rattle.token_system.specs.Stores.{Valuation};
@@ -83,6 +84,7 @@ fn run_trace<S: Source>(
     ensures run_end { IfOk result (λ a. IsRunEnd a.status) }
     ensures later { S.faults (source_of lines.old) ≤ S.faults (source_of lines.new) }
     ensures read { IsErrOf result Stop.Read → Rose (S.faults (source_of lines.old)) (S.faults (source_of lines.new)) }
+    ensures steady { StaysSteady (S.steady (source_of lines.old)) (S.steady (source_of lines.new)) (IsErrOf result Stop.Read) }
 {
     let mut out = Vec::new(alloc);
     let mut instant: usize = 0;
@@ -111,6 +113,7 @@ pub fn run_lines<S: Source>(alloc: Global, lines: &mut Lines<'_, S>) -> Result<A
     ensures run_end { IfOk result (λ a. IsRunEnd a.status) }
     ensures later { S.faults (source_of lines.old) ≤ S.faults (source_of lines.new) }
     ensures read { IsErrOf result Stop.Read → Rose (S.faults (source_of lines.old)) (S.faults (source_of lines.new)) }
+    ensures steady { StaysSteady (S.steady (source_of lines.old)) (S.steady (source_of lines.new)) (IsErrOf result Stop.Read) }
 {
     match lines.read_text() {
         Err(ReadStop::Read) => return Err(Stop::Read),

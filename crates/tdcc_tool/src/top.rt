@@ -3,6 +3,7 @@ ghost use Rattle.std.specs.Io.KnownBytes.{Appends, Consumes};
 ghost use Rattle.tdcc_base.specs.Causes.{Rose};
 ghost use Rattle.tdcc_base.specs.Written.{Tells};
 ghost use Rattle.tdcc_tool.specs.Answers.{Answers, AnswersRun, IsRunCommand};
+ghost use Rattle.tdcc_tool.specs.Completeness.{IsRunnable, EndsWhole, IsRoomFor};
 ghost use Rattle.tdcc_tool.specs.Cuts.{CutsOut, own_line};
 ghost use Rattle.tdcc_tool.specs.Ends.{IsSettled, IsRunEnd, IsToolStatus};
 
@@ -34,6 +35,7 @@ fn answer_run<S: Source>(alloc: Global, source: &mut S) -> Result<Answer, Stop>
     ensures answer { IfOk result (λ a. IfSome (S.left source.old) (λ bytes. AnswersRun bytes a.status a.out.items (string_bytes a.err))) }
     ensures ended { IfOk result (λ a. a.status ≡ Status.Ok → OnSome (S.left source.old) (S.left source.new ≡ Some [])) }
     ensures read { IsErrOf result Stop.Read → Rose (S.faults source.old) (S.faults source.new) }
+    ensures steady { IsTrue (S.steady source.old) → IsErrOf result Stop.Read → ⊥ }
     ensures run_end { IfOk result (λ a. IsRunEnd a.status) }
 {
     let Ok(mut lines) = Lines::new(alloc, source) else {
@@ -69,6 +71,14 @@ pub fn tdcc<R: Threads + Sync, S: Source, K: Sink, E: Sink, G: Gate>(
     ensures own_line { IfSome (own_line result) (λ line. Tells (E.written err.old) (E.written err.new) (E.faults err.old) (E.faults err.new) line) }
     ensures read { result ≡ Status.Read → Rose (S.faults source.old) (S.faults source.new) }
     ensures write { result ≡ Status.Write → Rose (K.faults out.old) (K.faults out.new) }
+
+    // Where a run goes to its end: nothing but a fault or want of memory keeps it from that, and devices
+    // that are sure not to fail do not.
+    ensures whole { IfSome (S.left source.old) (λ bytes. IsRunnable words.now bytes →
+        EndsWhole result (Rose (S.faults source.old) (S.faults source.new)) (Rose (K.faults out.old) (K.faults out.new))) }
+    ensures steady { IsTrue (S.steady source.old) → result ≡ Status.Read → ⊥ }
+    ensures roomy { (bytes : List ℕ) (s : Status) (o e : List ℕ) → S.left source.old ≡ Some bytes → Answers words.now bytes s o e →
+        IsRoomFor (K.room out.old) o → result ≡ Status.Write → ⊥ }
 
     // Words that are none of the tool's.
     ensures usage { (IsRunCommand words.now → ⊥) ↔ (result ≡ Status.Usage) }

@@ -15,6 +15,7 @@ lines-init g c = record {
   going_on = c.requires.going_on;
   few = omega arith;
   later = omega arith;
+  steady = λ h. h;
   so_far = subst (λ (o : List ℕ). IfSome (waiting g.S.Source.left c.args.lines.now) (λ trace. Progress c.args.program.now trace (waiting g.S.Source.left c.args.lines.now) 0 o)) (sym c.new-out.ensures.items)
       (progress-start c.args.program.now (waiting g.S.Source.left c.args.lines.now));
 }
@@ -52,6 +53,7 @@ lines-preserved g c =
       going_on = c.in-Ok-Line.ensures.going_on;
       few = omega (arith, k.few);
       later = omega (arith, c.in-Ok-Line.ensures.later);
+      steady = λ h. ((c.in-Ok-Line.ensures.steady c.lines.invariant.going_on) (c.lines.invariant.steady h)).0;
       so_far = goes_on c.args.program.now (waiting g.S.Source.left c.args.lines.now) (waiting g.S.Source.left c.lines.lines) (waiting g.S.Source.left c.read_line.new.self) (line_read c.read_line.new.self) c.lines.out.items c.run_line.new.out.items c.lines.instant c.lines.invariant.so_far h
           (subst (λ (l : List ℕ). Goes c.args.program.now c.lines.instant l c.lines.out.items c.run_line.new.out.items) c.line.ensures k);
     }

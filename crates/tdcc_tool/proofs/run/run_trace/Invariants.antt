@@ -1,5 +1,5 @@
 use Rattle.std.proofs.Common.{◌≡◌, ◌≤◌, ◌-◌}
-use Rattle.std.specs.Prelude.{IfSome, IsNone}
+use Rattle.std.specs.Prelude.{IfSome, IsNone, IsTrue}
 use Rattle.tdcc_base.specs.Waiting.{waiting, source_of, stop_of, LinesReady, name_of}
 use Rattle.tdcc_tool.proofs.RunSteps.{Progress}
 use Rattle.tdcc_tool.proofs.run.run_trace.Given as goal
@@ -11,6 +11,7 @@ invariant-lines g l = record {
   going_on : IsNone (stop_of l.lines);
   few : l.instant ≤ 65536;
   later : g.S.Source.faults (source_of l.fn.lines) ≤ g.S.Source.faults (source_of l.lines);
+  steady : IsTrue (g.S.Source.steady (source_of l.fn.lines)) → IsTrue (g.S.Source.steady (source_of l.lines));
   so_far : IfSome (waiting g.S.Source.left l.fn.lines) (λ trace. Progress l.program trace (waiting g.S.Source.left l.lines) l.instant l.out.items);
 }
 

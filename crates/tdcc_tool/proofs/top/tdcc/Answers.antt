@@ -1,10 +1,11 @@
-use Rattle.std.proofs.Common.{[], refl, ◌∙◌, inl, inr, subst}
+use Rattle.std.proofs.Common.{[], Err, false, refl, ◌∙◌, inl, inr, subst}
 use Rattle.tdcc_base.specs.Written.{AppendsPart}
 use Rattle.tdcc_base.proofs.Known.{Appends-nothing}
 use Rattle.tdcc_tool.specs.Messages.{usage_line}
 use Rattle.tdcc_tool.specs.Answers.{IsRunCommand}
 use Rattle.tdcc_tool.proofs.Texts.{IfSome-all, IfSome-at, true_and_false}
 use Rattle.tdcc_tool.proofs.OneAnswer.{one_answer}
+use Rattle.tdcc_tool.proofs.WholeRuns.{runs_whole, no_room}
 use Rattle.tdcc_tool.proofs.top.tdcc.Goals as goal
 
 pub returns-then-not-is_run-clause-answer : goal.returns-then-not-is_run-clause-answer
@@ -18,3 +19,14 @@ returns-in-Ok-clause-cut_out g c bytes given known taken s o e answer =
     let ours = IfSome-at (g.S.Source.left c.args.source.now) bytes _ known c.in-Ok.ensures.answer in
     let same = one_answer c.args.words.now bytes c.in-Ok.answer.status s c.in-Ok.answer.out.items o _ e (inl (is_run, ours)) answer in
     subst (AppendsPart (g.K.Sink.written c.args.out.now) (g.K.Sink.written c.write_all.new.sink)) (c.as_slice.ensures.value ∙ same.1) c.in-Err.ensures.part
+
+pub returns-in-Ok-write_all-clause-whole : goal.returns-in-Ok-write_all-clause-whole
+returns-in-Ok-write_all-clause-whole g c =
+    runs_whole c.args.words.now (g.S.Source.left c.args.source.now) c.in-Ok.answer.status c.in-Ok.answer.out.items _ _ _ c.in-Ok.ensures.answer
+
+pub returns-in-Ok-clause-roomy : goal.returns-in-Ok-clause-roomy
+returns-in-Ok-clause-roomy g c bytes s o e known answer room is =
+    let is_run : IsRunCommand c.args.words.now = c.is_run.ensures.0 c.if-not-is_run.false in
+    let ours = IfSome-at (g.S.Source.left c.args.source.now) bytes _ known c.in-Ok.ensures.answer in
+    let same = one_answer c.args.words.now bytes c.in-Ok.answer.status s c.in-Ok.answer.out.items o _ e (inl (is_run, ours)) answer in
+    no_room {T = Unit {0}} (g.K.Sink.room c.args.out.now) (g.K.Sink.room c.write_all.new.sink) c.as_slice.result.now o (Err c.in-Err.field-0) (λ h. true_and_false false h refl) c.in-Err.ensures.roomy (c.as_slice.ensures.value ∙ same.1) room

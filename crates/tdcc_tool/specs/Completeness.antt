@@ -1,0 +1,33 @@
+-- When a run goes to its end. This project's own.
+use Rattle.std.specs.Prelude.{ℕ, ◌≤◌, List, length, String, Option, Some, None}
+use Rattle.std.specs.declared.alloc.Global.{Global}
+use Rattle.tdcc_base.specs.Lines.{lines_of}
+use Rattle.tdcc_base.specs.Texts.{text_of, trace_of}
+use Rattle.tdcc_base.specs.declared.status.Status.{Status}
+use Rattle.tdcc_base.specs.declared.status.Status.TheVariants as statuses
+use Rattle.token_system.specs.Stores.{Valuation}
+use Rattle.agent_core.specs.Programs.{CoreProgram}
+use Rattle.tdcc_tool.specs.Accepted.{Accepts}
+use Rattle.tdcc_tool.specs.Answers.{GiveInputs, IsRunCommand}
+
+-- the words are those of `run`, the text is a program that runs, and each line of the trace, of which there are not too many, gives an input
+pub record IsRunnable (words : List (String Global)) (bytes : List ℕ) : Type 0 where
+  pub command : IsRunCommand words
+  pub program : CoreProgram
+  pub accepted : Accepts (text_of bytes) program
+  pub inputs : List Valuation
+  pub few : length inputs ≤ 65536
+  pub given : GiveInputs program (lines_of (trace_of bytes)) inputs
+
+-- the run went to its end, or memory ran out, or the source or the sink failed for this reason
+abbrev pub EndsWhole : Status → Type 0 → Type 0 → Type 0
+EndsWhole statuses.Ok source_failed sink_failed = Unit {0}
+EndsWhole statuses.Memory source_failed sink_failed = Unit {0}
+EndsWhole statuses.Read source_failed sink_failed = source_failed
+EndsWhole statuses.Write source_failed sink_failed = sink_failed
+EndsWhole _ source_failed sink_failed = ⊥
+
+-- the room that is sure is enough for the bytes
+abbrev pub IsRoomFor : Option ℕ → List ℕ → Type 0
+IsRoomFor None bytes = ⊥
+IsRoomFor (Some room) bytes = length bytes ≤ room
