@@ -1,0 +1,4 @@
+pub mod Lists
+pub mod Spread
+pub mod Tables
+pub mod Steps

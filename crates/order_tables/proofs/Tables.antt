@@ -1,0 +1,139 @@
+-- There is a table exactly where no strict arc closes a circle.
+use Rattle.std.proofs.Common.{◌≡◌, ◌⊎◌, inl, inr, ℕ, zero, suc, ◌+◌, ◌-◌, ◌<◌, ◌≤◌, Bool, true, false, List, length, map, refl, sym, ap, subst, arith}
+use Rattle.std.specs.Prelude.{IsTrue, All, Contains, slice_index, if◌then◌else◌}
+use Rattle.std.specs.List.{range_with_len}
+use Rattle.std.proofs.lemmas.List.FromFn.{get_or-map-range_with_len}
+use Rattle.order_tables.specs.declared.arc.Arc.{Arc}
+use Rattle.order_tables.specs.Arcs.{needs, Meets, Within, HasTable, IsLeast, Chain, Reaches}
+use Rattle.order_tables.proofs.Lists.{all_at, all_by}
+use Rattle.order_tables.proofs.Spread.{true_false, reaches, reaches-to, chain-reaches}
+
+-- the arc is strict, and its high end reaches its low one
+abbrev pub IsBad : List Arc → Arc → Type 0
+IsBad arcs e = (e.strict ≡ true) × Reaches arcs e.high e.low
+
+-- CHAINS
+
+-- numbers do not fall along a chain
+pub chain-le : (arcs : List Arc) (table : List ℕ) → All (Meets table) arcs → (n a b : ℕ) → Chain arcs a b n → slice_index table a ≤ slice_index table b
+chain-le arcs table meets zero a b chain = let e = ap (slice_index table) chain in omega arith
+chain-le arcs table meets (suc n) a b (e, chain, i, is) =
+    let before = chain-le arcs table meets n a e.low chain in
+    let at : slice_index table e.high ≡ slice_index table b = ap (slice_index table) is in
+    let step = weak (slice_index table e.low) (slice_index table e.high) e.strict (all_at (Meets table) arcs e meets i) in
+    omega arith
+  where
+    weak : (x y : ℕ) (s : Bool) → x + (if s then 1 else 0) ≤ y → x ≤ y
+    weak x y true h = omega arith
+    weak x y false h = omega arith
+
+-- a bad arc leaves no table
+pub bad-none : (arcs : List Arc) (e : Arc) → Contains arcs e → IsBad arcs e → HasTable arcs → ⊥
+bad-none arcs e i bad (table, meets) =
+    let up = chain-le arcs table meets bad.1.0 e.high e.low bad.1.1 in
+    let step : slice_index table e.low + 1 ≤ slice_index table e.high =
+    subst (λ (s : Bool). slice_index table e.low + (if s then 1 else 0) ≤ slice_index table e.high) bad.0 (all_at (Meets table) arcs e meets i) in
+    omega arith
+
+-- COUNTING
+
+-- how many numbers below n pass
+abbrev count : (ℕ → Bool) → ℕ → ℕ
+count f zero = 0
+count f (suc n) = count f n + (if f n then 1 else 0)
+
+one_more : (x y : ℕ) (a b : Bool) → x ≤ y → (IsTrue a → IsTrue b) → x + (if a then 1 else 0) ≤ y + (if b then 1 else 0)
+one_more x y true true h up = omega arith
+one_more x y true false h up = absurd (true_false (sym (up refl)))
+one_more x y false true h up = omega arith
+one_more x y false false h up = omega arith
+
+count-le : (f g : ℕ → Bool) → ((y : ℕ) → IsTrue (f y) → IsTrue (g y)) → (n : ℕ) → count f n ≤ count g n
+count-le f g up zero = omega arith
+count-le f g up (suc n) = one_more (count f n) (count g n) (f n) (g n) (count-le f g up n) (up n)
+
+count-lt : (f g : ℕ → Bool) → ((y : ℕ) → IsTrue (f y) → IsTrue (g y)) → (y : ℕ) → f y ≡ false → g y ≡ true → (n : ℕ) → y < n → count f n < count g n
+count-lt f g up y fy gy zero lt = absurd (omega arith)
+count-lt f g up y fy gy (suc n) lt = go (last (omega arith)) (λ h. count-lt f g up y fy gy n h)
+  where
+    last : y ≤ n → (y < n) ⊎ (y ≡ n)
+    last h = grind arith
+
+    all : count f n ≤ count g n
+    all = count-le f g up n
+
+    go : (y < n) ⊎ (y ≡ n) → (y < n → count f n < count g n) → count f n + (if f n then 1 else 0) < count g n + (if g n then 1 else 0)
+    go (inl h) ih = let less = one_more (suc (count f n)) (count g n) (f n) (g n) (let i = ih h in omega arith) (up n) in omega arith
+    go (inr e) ih =
+        let a : f n ≡ false = subst (λ (m : ℕ). f m ≡ false) e fy in
+        let b : g n ≡ true = subst (λ (m : ℕ). g m ≡ true) e gy in
+        let k = all in
+        subst (λ (s : Bool). count f n + (if s then 1 else 0) < count g n + (if g n then 1 else 0)) (sym a)
+        (subst (λ (s : Bool). count f n + 0 < count g n + (if s then 1 else 0)) (sym b) (omega arith))
+
+count-most : (f : ℕ → Bool) (n : ℕ) → count f n ≤ n
+count-most f zero = omega arith
+count-most f (suc n) = let h = count-most f n in grind arith
+
+-- THE TABLE
+
+-- each item is numbered by how many others reach it
+module _ (arcs : List Arc) (size : ℕ) (within : All (Within size) arcs) (good : All (λ e. IsBad arcs e → ⊥) arcs) where
+  abbrev rank : ℕ → ℕ
+  rank x = count (λ y. reaches arcs y x) size - 1
+
+  abbrev pub ranks : List ℕ
+  ranks = map rank (range_with_len 0 size)
+
+  itself : (x : ℕ) → IsTrue (reaches arcs x x)
+  itself x = chain-reaches arcs 0 x x refl
+
+  rank-some : (x : ℕ) → x < size → 0 < count (λ y. reaches arcs y x) size
+  rank-some x lt =
+      let h = count-lt (λ y. false) (λ y. reaches arcs y x) (λ y h. absurd (true_false (sym h))) x refl (itself x) size lt in
+      omega arith
+
+  onward : (e : Arc) → Contains arcs e → (y : ℕ) → IsTrue (reaches arcs y e.low) → IsTrue (reaches arcs y e.high)
+  onward e i y h = let c = reaches-to arcs y e.low h in chain-reaches arcs (suc c.0) y e.high (e, c.1, i, refl)
+
+  not_back : (e : Arc) → Contains arcs e → e.strict ≡ true → (b : Bool) → reaches arcs e.high e.low ≡ b → b ≡ false
+  not_back e i s true eb = absurd (all_at (λ e. IsBad arcs e → ⊥) arcs e good i (s, reaches-to arcs e.high e.low eb))
+  not_back e i s false eb = refl
+
+  rank-meets : (e : Arc) → Contains arcs e → (s : Bool) → e.strict ≡ s → rank e.low + (if s then 1 else 0) ≤ rank e.high
+  rank-meets e i false es =
+      let h = count-le (λ y. reaches arcs y e.low) (λ y. reaches arcs y e.high) (onward e i) size in
+      omega arith
+  rank-meets e i true es =
+      let w = all_at (Within size) arcs e within i in
+      let some = rank-some e.low w.0 in
+      let h = count-lt (λ y. reaches arcs y e.low) (λ y. reaches arcs y e.high) (onward e i) e.high (not_back e i es (reaches arcs e.high e.low) refl) (itself e.high) size w.1 in
+      omega arith
+
+  at_rank : (x : ℕ) → x < size → slice_index ranks x ≡ rank x
+  at_rank x lt = get_or-map-range_with_len rank 0 size x x 0 lt (omega arith)
+
+  pub ranks-below : (x : ℕ) → x < size → slice_index ranks x < size
+  ranks-below x lt =
+      let h = rank-some x lt in
+      let k = count-most (λ y. reaches arcs y x) size in
+      let e = at_rank x lt in
+      omega arith
+
+  pub ranks-meet : All (Meets ranks) arcs
+  ranks-meet = all_by (Meets ranks) arcs (λ e i.
+      let w = all_at (Within size) arcs e within i in
+      subst (λ (k : ℕ). k + (if e.strict then 1 else 0) ≤ slice_index ranks e.high) (sym (at_rank e.low w.0))
+      (subst (λ (k : ℕ). rank e.low + (if e.strict then 1 else 0) ≤ k) (sym (at_rank e.high w.1)) (rank-meets e i e.strict refl)))
+
+-- where there is a table, no arc is bad
+pub good_arcs : (arcs : List Arc) → HasTable arcs → All (λ e. IsBad arcs e → ⊥) arcs
+good_arcs arcs some = all_by (λ e. IsBad arcs e → ⊥) arcs (λ e i bad. bad-none arcs e i bad some)
+
+-- so the least table stays below the number of the items
+pub least-below : (arcs : List Arc) (t : List ℕ) → All (Within (length t)) arcs → HasTable arcs → IsLeast arcs t → (k : ℕ) → k < length t → slice_index t k < length t
+least-below arcs t within some least k lt =
+    let good = good_arcs arcs some in
+    let le = least (ranks arcs (length t) within good) (ranks-meet arcs (length t) within good) k lt in
+    let l = ranks-below arcs (length t) within good k lt in
+    omega arith

@@ -1,0 +1,8 @@
+//! Arcs between numbered items: the least numbers that they ask for, and which items they join.
+#![tactic(auto)]
+
+mod arc;
+mod table;
+
+pub use arc::Arc;
+pub use table::least_table;
