@@ -1,5 +1,5 @@
 -- Whether one item reaches another: the items that an item reaches, as a set.
-use Rattle.std.proofs.Common.{◌≡◌, ◌⊎◌, inl, inr, ℕ, zero, suc, ◌+◌, ◌<◌, Bool, true, false, ◌||◌, cond, List, [], ◌∷◌, refl, sym, ◌∙◌, subst, arith}
+use Rattle.std.proofs.Common.{◌≡◌, ◌⊎◌, inl, inr, ℕ, zero, suc, Bool, true, false, ◌||◌, cond, List, [], ◌∷◌, refl, sym, ◌∙◌, subst, arith}
 use Rattle.std.specs.Prelude.{IsTrue, All, Contains, nat_eq}
 use Rattle.std.proofs.lemmas.Bool.{eqb-true, eq-eqb}
 use Rattle.order_tables.specs.declared.arc.Arc.{Arc}
@@ -74,7 +74,11 @@ module _ (arcs : List Arc) where
       (spread_is arcs (λ x. nat_eq x a)).least (Reaches arcs a) (λ x e. (0, sym (eq_same x a e)))
       (all_by (λ e. Reaches arcs a e.low → Reaches arcs a e.high) arcs (λ e i c. (suc c.0, (e, c.1, i, refl)))) b h
 
+  -- what an item reaches it reaches onward
+  pub reaches-on : (a : ℕ) (e : Arc) → Contains arcs e → IsTrue (reaches a e.low) → IsTrue (reaches a e.high)
+  reaches-on a e i h = all_at (λ e. IsTrue (reaches a e.low) → IsTrue (reaches a e.high)) arcs e (spread_is arcs (λ x. nat_eq x a)).whole i h
+
   pub chain-reaches : (n a b : ℕ) → Chain arcs a b n → IsTrue (reaches a b)
   chain-reaches zero a b e = (spread_is arcs (λ x. nat_eq x a)).above b (subst (λ (y : ℕ). nat_eq y a ≡ true) e (same_eq a))
   chain-reaches (suc n) a b (e, chain, i, is) =
-      subst (λ (y : ℕ). IsTrue (reaches a y)) is (all_at (λ e. IsTrue (reaches a e.low) → IsTrue (reaches a e.high)) arcs e (spread_is arcs (λ x. nat_eq x a)).whole i (chain-reaches n a e.low chain))
+      subst (λ (y : ℕ). IsTrue (reaches a y)) is (reaches-on a e i (chain-reaches n a e.low chain))

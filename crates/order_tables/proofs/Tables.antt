@@ -4,9 +4,9 @@ use Rattle.std.specs.Prelude.{IsTrue, All, Contains, slice_index, if◌then◌el
 use Rattle.std.specs.List.{range_with_len}
 use Rattle.std.proofs.lemmas.List.FromFn.{get_or-map-range_with_len}
 use Rattle.order_tables.specs.declared.arc.Arc.{Arc}
-use Rattle.order_tables.specs.Arcs.{needs, Meets, Within, HasTable, IsLeast, Chain, Reaches}
+use Rattle.order_tables.specs.Arcs.{Meets, Within, HasTable, IsLeast, Chain, Reaches}
 use Rattle.order_tables.proofs.Lists.{all_at, all_by}
-use Rattle.order_tables.proofs.Spread.{true_false, reaches, reaches-to, chain-reaches}
+use Rattle.order_tables.proofs.Spread.{true_false, reaches, reaches-to, reaches-on, chain-reaches}
 
 -- the arc is strict, and its high end reaches its low one
 abbrev pub IsBad : List Arc → Arc → Type 0
@@ -93,21 +93,18 @@ module _ (arcs : List Arc) (size : ℕ) (within : All (Within size) arcs) (good 
       let h = count-lt (λ y. false) (λ y. reaches arcs y x) (λ y h. absurd (true_false (sym h))) x refl (itself x) size lt in
       omega arith
 
-  onward : (e : Arc) → Contains arcs e → (y : ℕ) → IsTrue (reaches arcs y e.low) → IsTrue (reaches arcs y e.high)
-  onward e i y h = let c = reaches-to arcs y e.low h in chain-reaches arcs (suc c.0) y e.high (e, c.1, i, refl)
-
   not_back : (e : Arc) → Contains arcs e → e.strict ≡ true → (b : Bool) → reaches arcs e.high e.low ≡ b → b ≡ false
   not_back e i s true eb = absurd (all_at (λ e. IsBad arcs e → ⊥) arcs e good i (s, reaches-to arcs e.high e.low eb))
   not_back e i s false eb = refl
 
   rank-meets : (e : Arc) → Contains arcs e → (s : Bool) → e.strict ≡ s → rank e.low + (if s then 1 else 0) ≤ rank e.high
   rank-meets e i false es =
-      let h = count-le (λ y. reaches arcs y e.low) (λ y. reaches arcs y e.high) (onward e i) size in
+      let h = count-le (λ y. reaches arcs y e.low) (λ y. reaches arcs y e.high) (λ y. reaches-on arcs y e i) size in
       omega arith
   rank-meets e i true es =
       let w = all_at (Within size) arcs e within i in
       let some = rank-some e.low w.0 in
-      let h = count-lt (λ y. reaches arcs y e.low) (λ y. reaches arcs y e.high) (onward e i) e.high (not_back e i es (reaches arcs e.high e.low) refl) (itself e.high) size w.1 in
+      let h = count-lt (λ y. reaches arcs y e.low) (λ y. reaches arcs y e.high) (λ y. reaches-on arcs y e i) e.high (not_back e i es (reaches arcs e.high e.low) refl) (itself e.high) size w.1 in
       omega arith
 
   at_rank : (x : ℕ) → x < size → slice_index ranks x ≡ rank x

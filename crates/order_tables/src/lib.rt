@@ -2,7 +2,9 @@
 #![tactic(auto)]
 
 mod arc;
+mod reach;
 mod table;
 
 pub use arc::Arc;
+pub use reach::reaching;
 pub use table::least_table;

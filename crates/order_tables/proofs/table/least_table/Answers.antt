@@ -2,7 +2,7 @@
 use Rattle.std.proofs.Common.{◌≡◌, ◌<◌, ◌-◌, ◌*◌, ℕ, List, length, sym, ap, ◌∙◌, subst}
 use Rattle.std.specs.Prelude.{All, sum}
 use Rattle.std.proofs.lemmas.List.{with_items_is}
-use Rattle.order_tables.specs.Arcs.{Within, IsPassed}
+use Rattle.order_tables.specs.Arcs.{Within}
 use Rattle.order_tables.proofs.Steps.{smaller}
 use Rattle.order_tables.proofs.Tables.{least-below}
 use Rattle.order_tables.proofs.table.least_table.Goals as goal

@@ -1,8 +1,8 @@
 -- One arc more.
-use Rattle.std.proofs.Common.{◌≡◌, ◌+◌, List, ℕ, Bool, true, false, length, sym, subst}
+use Rattle.std.proofs.Common.{◌≡◌, ◌+◌, List, ℕ, length, sym, subst}
 use Rattle.std.specs.Prelude.{All}
 use Rattle.order_tables.specs.declared.arc.Arc.{Arc}
-use Rattle.order_tables.specs.Arcs.{Within, IsRaised}
+use Rattle.order_tables.specs.Arcs.{Within}
 use Rattle.order_tables.proofs.Lists.{stands}
 use Rattle.order_tables.proofs.Steps.{Kept, kept-same, kept-more, needs-below, nil}
 use Rattle.order_tables.proofs.table.pass.Goals.{then-raise, else-raise}
