@@ -1,0 +1,105 @@
+-- Each edge of a program is carried by its arcs: so a table that meets the arcs stratifies, and cells that edges join are joined by arcs.
+use Rattle.std.proofs.Common.{◌≡◌, ◌⊎◌, inl, inr, ℕ, zero, suc, ◌+◌, ◌<◌, ◌≤◌, Bool, true, false, List, [], ◌∷◌, ◌++◌, length, map, refl, sym, ap, ◌∙◌, subst, arith, append_assoc}
+use Rattle.std.specs.Prelude.{All, Contains, slice_index, if◌then◌else◌}
+use Rattle.agent_core.specs.declared.node.Node.{Node}
+use Rattle.agent_core.specs.Programs.{CoreProgram}
+use Rattle.agent_core.specs.Agents.{Agent, Ask, Skip, Tell, Then, Else, Par, New, Hence, Next, agent_at}
+use Rattle.agent_core.specs.Listing.{size, listing, IsListing}
+use Rattle.agent_core.specs.Strata.{Asked, Edge, asked_by, agent_edges, edges, In, Each}
+use Rattle.agent_core.specs.Strata as strata
+use Rattle.agent_core.proofs.ListingTrees.{length-listing, root_tree}
+use Rattle.order_tables.specs.declared.arc.Arc.{Arc}
+use Rattle.order_tables.specs.Arcs.{Meets, Chain, Reaches}
+use Rattle.order_tables.proofs.Lists.{all_at, all_by}
+use Rattle.order_tables.proofs.Tables.{chain-le}
+use Rattle.strata.specs.Items.{arc, node_arcs, arcs_from, arcs}
+use Rattle.strata.proofs.Members.{in_each, each-map, join, split, all_each}
+use Rattle.strata.proofs.Under.{edge_of}
+
+arcs_from-append : (cells n : ℕ) (xs ys : List Node) → arcs_from cells n (xs ++ ys) ≡ arcs_from cells n xs ++ arcs_from cells (n + length xs) ys
+arcs_from-append cells n [] ys = let e : n ≡ n + 0 = omega arith in ap (λ (m : ℕ). arcs_from cells m ys) e
+arcs_from-append cells n (x ∷ xs) ys =
+    let e : suc n + length xs ≡ n + suc (length xs) = omega arith in
+    let own : List Arc = node_arcs cells n x in
+    ap (λ (zs : List Arc). own ++ zs) (arcs_from-append cells (suc n) xs ys ∙ ap (λ (m : ℕ). arcs_from cells (suc n) xs ++ arcs_from cells m ys) e)
+    ∙ sym (append_assoc own (arcs_from cells (suc n) xs) (arcs_from cells (n + suc (length xs)) ys))
+
+module _ (p : CoreProgram) where
+  abbrev cells : ℕ
+  cells = length p.cells
+
+  abbrev Arcs : List Arc → Type 0
+  Arcs es = Each (Contains (arcs p)) es
+
+  further : (a b c : ℕ) (strict : Bool) → Contains (arcs p) (arc b c strict) → Reaches (arcs p) a b → Reaches (arcs p) a c
+  further a b c strict i r = (suc r.0, (arc b c strict, r.1, i, refl))
+
+  -- an arc leads from the asked cell, as strict as the ask, and on to x
+  abbrev LeadsOn : Asked → ℕ → Type 0
+  LeadsOn g x = (y : ℕ) × Contains (arcs p) (arc g.cell y g.strict) × Reaches (arcs p) y x
+
+  abbrev pub IsCarried : Edge → Type 0
+  IsCarried e = (y : ℕ) × Contains (arcs p) (arc e.guard.cell y e.guard.strict) × Reaches (arcs p) y e.told
+
+  path_on : (n m : ℕ) (path : List Asked) → Contains (arcs p) (arc (cells + n) (cells + m) false) → Each (λ g. LeadsOn g (cells + n)) path → Each (λ g. LeadsOn g (cells + m)) path
+  path_on n m path i h = each-map (λ g. LeadsOn g (cells + n)) (λ g. LeadsOn g (cells + m)) (λ g l. (l.0, l.1, further l.0 (cells + n) (cells + m) false i l.2)) path h
+
+  asked_on : (n m : ℕ) (strict : Bool) (c : Ask) → Arcs (map (λ x. arc x.0 (cells + m) strict) c) → Each (λ g. LeadsOn g (cells + m)) (asked_by n strict c)
+  asked_on n m strict [] h = tt
+  asked_on n m strict (x ∷ c) h = ((cells + m, h.0, (0, refl)), asked_on n m strict c h.1)
+
+  one_told : (n d : ℕ) (path : List Asked) → Contains (arcs p) (arc (cells + n) d false) → Each (λ g. LeadsOn g (cells + n)) path → Each IsCarried (map (λ g. edge_of g n d) path)
+  one_told n d [] i h = tt
+  one_told n d (g ∷ path) i h = let l = h.0 in ((l.0, l.1, further l.0 (cells + n) d false i l.2), one_told n d path i h.1)
+
+  told_on : (n : ℕ) (c : Ask) (path : List Asked) → Arcs (map (λ x. arc (cells + n) x.0 false) c) → Each (λ g. LeadsOn g (cells + n)) path → Each IsCarried (agent_edges n (Tell c) path)
+  told_on n [] path i h = tt
+  told_on n (x ∷ c) path i h = join IsCarried (map (λ g. edge_of g n x.0) path) (agent_edges n (Tell c) path) (one_told n x.0 path i.0 h) (told_on n c path i.1 h)
+
+  agent_on : (a : Agent) (n : ℕ) (path : List Asked) → Arcs (arcs_from cells n (listing n a)) → Each (λ g. LeadsOn g (cells + n)) path → Each IsCarried (agent_edges n a path)
+  agent_on Skip n path i h = tt
+  agent_on (Tell c) n path i h = told_on n c path (split (Contains (arcs p)) (map (λ x. arc (cells + n) x.0 false) c) [] i).0 h
+  agent_on (Then c a) n path i h =
+      let s = split (Contains (arcs p)) (map (λ x. arc x.0 (cells + suc n) false) c) (arcs_from cells (suc n) (listing (suc n) a)) i.1 in
+      agent_on a (suc n) (path ++ asked_by n false c) s.1 (join (λ g. LeadsOn g (cells + suc n)) path (asked_by n false c) (path_on n (suc n) path i.0 h) (asked_on n (suc n) false c s.0))
+  agent_on (Else c a) n path i h =
+      let s = split (Contains (arcs p)) (map (λ x. arc x.0 (cells + suc n) true) c) (arcs_from cells (suc n) (listing (suc n) a)) i.1 in
+      agent_on a (suc n) (path ++ asked_by n true c) s.1 (join (λ g. LeadsOn g (cells + suc n)) path (asked_by n true c) (path_on n (suc n) path i.0 h) (asked_on n (suc n) true c s.0))
+  agent_on (Par l r) n path i h =
+      let both = arcs_from-append cells (suc n) (listing (suc n) l) (listing (suc n + size l) r) ∙ ap (λ (k : ℕ). arcs_from cells (suc n) (listing (suc n) l) ++ arcs_from cells (suc n + k) (listing (suc n + size l) r)) (length-listing (suc n) l) in
+      let s = split (Contains (arcs p)) (arcs_from cells (suc n) (listing (suc n) l)) (arcs_from cells (suc n + size l) (listing (suc n + size l) r)) (subst (λ (es : List Arc). Arcs es) both i.1.1) in
+      join IsCarried (agent_edges (suc n) l path) (agent_edges (suc n + size l) r path) (agent_on l (suc n) path s.0 (path_on n (suc n) path i.0 h)) (agent_on r (suc n + size l) path s.1 (path_on n (suc n + size l) path i.1.0 h))
+  agent_on (New cell a) n path i h = agent_on a (suc n) path i.1 (path_on n (suc n) path i.0 h)
+  agent_on (Hence a) n path i h = agent_on a (suc n) [] i tt
+  agent_on (Next a) n path i h = agent_on a (suc n) [] i tt
+
+  module _ (w : IsListing p.nodes) where
+    pub edges-carried : Each IsCarried (edges p)
+    edges-carried =
+        let root = root_tree p.nodes w in
+        let list : p.nodes ≡ listing 0 (agent_at p.nodes 0) = w.1 ∙ ap (listing 0) (sym root) in
+        let every : Arcs (arcs p) = all_each (Contains (arcs p)) (arcs p) (all_by (Contains (arcs p)) (arcs p) (λ x i. i)) in
+        agent_on (agent_at p.nodes 0) 0 [] (subst (λ (ns : List Node). Arcs (arcs_from cells 0 ns)) list every) tt
+
+    -- a table that meets the arcs meets the edges
+    pub arcs-meet_edges : (t : List ℕ) → All (Meets t) (arcs p) → Each (strata.Meets t) (edges p)
+    arcs-meet_edges t meets = each-map IsCarried (strata.Meets t) (λ e l.
+        let first : Meets t (arc e.guard.cell l.0 e.guard.strict) = all_at (Meets t) (arcs p) (arc e.guard.cell l.0 e.guard.strict) meets l.1 in
+        let on = chain-le (arcs p) t meets l.2.0 l.0 e.told l.2.1 in
+        omega arith)
+        (edges p) edges-carried
+
+    chains_join : (n a b c : ℕ) → Reaches (arcs p) a b → Chain (arcs p) b c n → Reaches (arcs p) a c
+    chains_join zero a b c r e = subst (Reaches (arcs p) a) e r
+    chains_join (suc n) a b c r (e, chain, i, is) = let before = chains_join n a b e.low r chain in (suc before.0, (e, before.1, i, is))
+
+    edge_chain : (n a b : ℕ) → strata.Chain (edges p) a b n → Reaches (arcs p) a b
+    edge_chain zero a b e = (0, e)
+    edge_chain (suc n) a b (e, chain, i, is) =
+        let before = edge_chain n a e.guard.cell chain in
+        let l = in_each IsCarried (edges p) e edges-carried i in
+        subst (Reaches (arcs p) a) is (chains_join l.2.0 a l.0 e.told (further a e.guard.cell l.0 e.guard.strict l.1 before) l.2.1)
+
+    -- cells that edges join are joined by arcs
+    pub edges-arcs : (a b : ℕ) → strata.Reaches (edges p) a b → Reaches (arcs p) a b
+    edges-arcs a b r = edge_chain r.0 a b r.1

@@ -1,0 +1,115 @@
+-- The edges of a program as arcs between its cells.
+use Rattle.std.proofs.Common.{◌≡◌, ◌⊎◌, inl, inr, ℕ, zero, suc, ◌+◌, ◌<◌, ◌≤◌, Bool, true, false, List, [], ◌∷◌, ◌++◌, length, map, refl, sym, ap, ◌∙◌, subst, arith}
+use Rattle.std.specs.Prelude.{All, Contains, slice_index}
+use Rattle.std.proofs.lemmas.List.FromFn.{length-map-range_with_len}
+use Rattle.agent_core.specs.Programs.{CoreProgram}
+use Rattle.agent_core.specs.Agents.{Agent, Ask, Skip, Tell, Then, Else, Par, New, Hence, Next, agent_at}
+use Rattle.agent_core.specs.Listing.{size}
+use Rattle.agent_core.specs.Facts.{Scoped, IsProgram}
+use Rattle.agent_core.specs.Strata.{Asked, Edge, asked_by, agent_edges, edges, In, Each, Stratifies, HasNoTable}
+use Rattle.agent_core.specs.Strata as strata
+use Rattle.order_tables.specs.declared.arc.Arc.{Arc}
+use Rattle.order_tables.specs.Arcs.{Meets, Within, HasTable, Chain, Reaches}
+use Rattle.order_tables.proofs.Tables.{IsBad, bad-none, good_arcs, ranks, ranks-meet, ranks-below}
+use Rattle.strata.specs.Items.{arc, AskInside}
+use Rattle.strata.proofs.Members.{in_map, map_in, in_each, join, each_all, all_each, in_contains, contains_in}
+use Rattle.strata.proofs.Under.{edge_of, scope-inside}
+
+abbrev pub edge_arc : Edge → Arc
+edge_arc e = arc e.guard.cell e.told e.guard.strict
+
+abbrev pub edge_arcs : CoreProgram → List Arc
+edge_arcs p = map edge_arc (edges p)
+
+-- CHAINS
+
+pub to_chain : (es : List Edge) (n a b : ℕ) → strata.Chain es a b n → Chain (map edge_arc es) a b n
+to_chain es zero a b e = e
+to_chain es (suc n) a b (e, chain, i, is) = (edge_arc e, to_chain es n a e.guard.cell chain, in_contains (edge_arc e) (map edge_arc es) (in_map edge_arc e es i), is)
+
+pub from_chain : (es : List Edge) (n a b : ℕ) → Chain (map edge_arc es) a b n → strata.Chain es a b n
+from_chain es zero a b e = e
+from_chain es (suc n) a b (e, chain, i, is) =
+    let x = map_in edge_arc e es (contains_in e (map edge_arc es) i) in
+    (x.0, subst (λ (y : Arc). strata.Chain es a y.low n) x.2 (from_chain es n a e.low chain), x.1, ap (λ (y : Arc). y.high) (sym x.2) ∙ is)
+
+-- TABLES
+
+to_meets : (t : List ℕ) (es : List Edge) → Each (strata.Meets t) es → Each (Meets t) (map edge_arc es)
+to_meets t [] h = tt
+to_meets t (e ∷ es) h = (h.0, to_meets t es h.1)
+
+from_meets : (t : List ℕ) (es : List Edge) → Each (Meets t) (map edge_arc es) → Each (strata.Meets t) es
+from_meets t [] h = tt
+from_meets t (e ∷ es) h = (h.0, from_meets t es h.1)
+
+pub edges-table : (p : CoreProgram) (t : List ℕ) → Stratifies p t → HasTable (edge_arcs p)
+edges-table p t s = (t, each_all (Meets t) (edge_arcs p) (to_meets t (edges p) s.each))
+
+-- a told cell that reaches the cell that its else asks for leaves no table
+pub back-none : (p : CoreProgram) (e : Edge) → In e (edges p) → e.guard.strict ≡ true → strata.Reaches (edges p) e.told e.guard.cell → HasNoTable p
+back-none p e i strict r table s =
+    bad-none (edge_arcs p) (edge_arc e) (in_contains (edge_arc e) (edge_arcs p) (in_map edge_arc e (edges p) i)) (strict, (r.0, to_chain (edges p) r.0 e.told e.guard.cell r.1)) (edges-table p table s)
+
+-- EDGES LIE WITHIN
+
+module _ (p : CoreProgram) where
+  abbrev IsIn : Edge → Type 0
+  IsIn e = Within (length p.cells) (edge_arc e)
+
+  abbrev AskedIn : Asked → Type 0
+  AskedIn g = g.cell < length p.cells
+
+  asks_in : (n : ℕ) (strict : Bool) (c : Ask) → AskInside (length p.cells) c → Each AskedIn (asked_by n strict c)
+  asks_in n strict [] h = tt
+  asks_in n strict (x ∷ c) h = (h.0, asks_in n strict c h.1)
+
+  one_in : (n d : ℕ) (path : List Asked) → d < length p.cells → Each AskedIn path → Each IsIn (map (λ g. edge_of g n d) path)
+  one_in n d [] lt h = tt
+  one_in n d (g ∷ path) lt h = ((h.0, lt), one_in n d path lt h.1)
+
+  tell_in : (n : ℕ) (c : Ask) (path : List Asked) → AskInside (length p.cells) c → Each AskedIn path → Each IsIn (agent_edges n (Tell c) path)
+  tell_in n [] path h g = tt
+  tell_in n (x ∷ c) path h g = join IsIn (map (λ g. edge_of g n x.0) path) (agent_edges n (Tell c) path) (one_in n x.0 path h.0 g) (tell_in n c path h.1 g)
+
+  agent_in : (a : Agent) (n : ℕ) (locals : List ℕ) (path : List Asked) → Scoped p locals a → Each AskedIn path → Each IsIn (agent_edges n a path)
+  agent_in Skip n locals path h g = tt
+  agent_in (Tell c) n locals path h g = tell_in n c path (scope-inside p locals c h.tokens) g
+  agent_in (Then c a) n locals path h g = agent_in a (suc n) locals (path ++ asked_by n false c) h.1 (join AskedIn path (asked_by n false c) g (asks_in n false c (scope-inside p locals c h.0.tokens)))
+  agent_in (Else c a) n locals path h g = agent_in a (suc n) locals (path ++ asked_by n true c) h.1 (join AskedIn path (asked_by n true c) g (asks_in n true c (scope-inside p locals c h.0.tokens)))
+  agent_in (Par l r) n locals path h g = join IsIn (agent_edges (suc n) l path) (agent_edges (suc n + size l) r path) (agent_in l (suc n) locals path h.0 g) (agent_in r (suc n + size l) locals path h.1 g)
+  agent_in (New cell a) n locals path h g = agent_in a (suc n) (cell ∷ locals) path h g
+  agent_in (Hence a) n locals path h g = agent_in a (suc n) locals [] h tt
+  agent_in (Next a) n locals path h g = agent_in a (suc n) locals [] h tt
+
+  pub edges-inside : IsProgram p → Each (λ e. Within (length p.cells) (edge_arc e)) (edges p)
+  edges-inside is = agent_in (agent_at p.nodes 0) 0 [] [] is.scoped tt
+
+  within : (es : List Edge) → Each IsIn es → Each (Within (length p.cells)) (map edge_arc es)
+  within [] h = tt
+  within (e ∷ es) h = (h.0, within es h.1)
+
+  edge_arcs-within : IsProgram p → All (Within (length p.cells)) (edge_arcs p)
+  edge_arcs-within is = each_all (Within (length p.cells)) (edge_arcs p) (within (edges p) (edges-inside is))
+
+  -- where no edge is bad, the ranks of the cells stratify
+  pub good-table : IsProgram p → All (λ e. IsBad (edge_arcs p) e → ⊥) (edge_arcs p) → (t : List ℕ) × Stratifies p t
+  good-table is good =
+      let t = ranks (edge_arcs p) (length p.cells) (edge_arcs-within is) good in
+      let meets = ranks-meet (edge_arcs p) (length p.cells) (edge_arcs-within is) good in (
+        t,
+        record {
+          long = length-map-range_with_len _ 0 (length p.cells);
+          each = from_meets t (edges p) (all_each (Meets t) (edge_arcs p) meets);
+        },
+      )
+
+  -- so the numbers of the least table are less than the number of cells
+  pub least-inside : IsProgram p → (t : List ℕ) → Stratifies p t → strata.IsLeastTable p t → (c : ℕ) → c < length p.cells → slice_index t c < length p.cells
+  least-inside is t s least c lt =
+      let good = good_arcs (edge_arcs p) (edges-table p t s) in
+      let other = ranks (edge_arcs p) (length p.cells) (edge_arcs-within is) good in
+      let meets = ranks-meet (edge_arcs p) (length p.cells) (edge_arcs-within is) good in
+      let le = least other (record { long = length-map-range_with_len _ 0 (length p.cells); each = from_meets other (edges p) (all_each (Meets other) (edge_arcs p) meets) }) c lt in
+      let below = ranks-below (edge_arcs p) (length p.cells) (edge_arcs-within is) good c lt in
+      omega arith

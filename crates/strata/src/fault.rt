@@ -1,0 +1,23 @@
+ghost use Rattle.std.specs.Prelude.{◌≡◌};
+ghost use Rattle.strata.specs.declared.fault.StrataFault.TheVariants.{Memory};
+
+use std::alloc::AllocError;
+
+/// Why a program gets no table.
+#[derive(Clone, Copy, Debug, PartialEq, Eq)]
+pub enum StrataFault {
+    /// No table stratifies the program: the cell `told` is told below the else of node `node`, which
+    /// asks for the cell `guard`, and `told` reaches `guard`. It is the first such case, by the
+    /// number of the else, then of the tell, and then by the places of the two cells in these.
+    NotStratified { guard: u32, told: u32, node: u32 },
+    /// An allocation failed.
+    Memory,
+}
+
+impl From<AllocError> for StrataFault {
+    ghost from_gives = { λ _ e. e ≡ Memory };
+
+    fn from(_error: AllocError) -> StrataFault {
+        StrataFault::Memory
+    }
+}

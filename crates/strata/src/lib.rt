@@ -1,0 +1,10 @@
+//! The least table of numbers that stratifies a program, or the first case for which there is none.
+#![tactic(auto)]
+
+mod arcs;
+mod fault;
+mod least;
+mod search;
+
+pub use fault::StrataFault;
+pub use least::strata;
