@@ -6,3 +6,5 @@ pub mod Carried
 pub mod Reached
 pub mod Extended
 pub mod CaseEdges
+pub mod Searches
+pub mod Results
