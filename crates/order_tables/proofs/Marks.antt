@@ -115,7 +115,3 @@ module _ (nexts : List (Vec ℕ Global)) (item : ℕ) (old : List Bool) where
         go a (inl h) = inl h
         go a (inr (inl e)) = inr (subst (λ (x : ℕ). All (λ b. IsTrue (has now b)) (list_at nexts x)) (sym e) own)
         go a (inr (inr h)) = inr h
-
--- an item that is marked already
-pub marked-same : (nexts : List (Vec ℕ Global)) (item : ℕ) (old : List Bool) → has old item ≡ true → IsMarked nexts item old old
-marked-same nexts item old e = record { kept = λ a h. h; here = e; onward = λ a h. inl h; sound = λ a h. inl h }

@@ -20,7 +20,7 @@ loop-next-preserved t c =
     let long = ap length same in (
       same,
       walk-on c.args.nexts.now c.args.item c.args.marks.now c.loop-next.marks c.loop-next.next-index c.loop-next.invariant.1 c.mark.new.marks (omega arith) c.mark.auto.marks
-      (subst (λ (xs : List ℕ). IsMarked c.args.nexts.now (slice_index_or xs c.loop-next.next-index 0) c.loop-next.marks c.mark.new.marks) same c.mark.ensures),
+          (subst (λ (xs : List ℕ). IsMarked c.args.nexts.now (slice_index_or xs c.loop-next.next-index 0) c.loop-next.marks c.mark.new.marks) same c.mark.ensures),
     )
 
 pub returns : goal.returns
