@@ -1,17 +1,14 @@
 -- The cases are the edges that come from an else.
-use Rattle.std.proofs.Common.{◌≡◌, ◌⊎◌, inl, inr, ℕ, suc, ◌+◌, ◌<◌, ◌≤◌, Bool, true, false, List, [], ◌∷◌, ◌++◌, length, map, refl, sym, ap, ◌∙◌, subst, arith}
-use Rattle.std.specs.Prelude.{flat_map}
+use Rattle.std.proofs.Common.{◌≡◌, inl, inr, ℕ, suc, ◌+◌, ◌<◌, Bool, true, false, List, [], ◌∷◌, ◌++◌, length, map, refl, sym, ap, subst, arith}
 use Rattle.std.specs.List.{range_with_len}
-use Rattle.agent_core.specs.declared.node.Node.{Node}
 use Rattle.agent_core.specs.Programs.{CoreProgram}
 use Rattle.agent_core.specs.Agents.{Agent, Ask, Skip, Tell, Then, Else, Par, New, Hence, Next, agent_at}
-use Rattle.agent_core.specs.Listing.{size, listing}
+use Rattle.agent_core.specs.Listing.{size}
 use Rattle.agent_core.specs.Facts.{IsProgram}
 use Rattle.agent_core.specs.Strata.{Asked, Edge, asked_by, agent_edges, edges, tells_of, cases_at, cases, In, Each}
 use Rattle.agent_core.proofs.ListingTrees.{listed_tree}
-use Rattle.strata.specs.Items.{arc}
-use Rattle.strata.proofs.Members.{in_left, in_right, in_map, map_in, in_flat_map, flat_map_in, in_range, range_in, in_each, each_in, each-map, join}
-use Rattle.strata.proofs.Under.{Under, Under-goes_down, root_under, under, under-within, tells, tells-at, edge_of, path_edge, asked_in}
+use Rattle.strata.proofs.Members.{in_left, in_right, in_map, map_in, in_flat_map, flat_map_in, in_range, range_in, in_each, each-map, join}
+use Rattle.strata.proofs.Under.{Under, Under-goes_down, root_under, under, under-within, tells-at, edge_of, path_edge, asked_in}
 
 abbrev else_asked : ℕ → ℕ → Asked
 else_asked n cell = record { node = n; cell = cell; strict = true }

@@ -1,6 +1,6 @@
 -- The edges of a program as arcs between its cells.
-use Rattle.std.proofs.Common.{◌≡◌, ◌⊎◌, inl, inr, ℕ, zero, suc, ◌+◌, ◌<◌, ◌≤◌, Bool, true, false, List, [], ◌∷◌, ◌++◌, length, map, refl, sym, ap, ◌∙◌, subst, arith}
-use Rattle.std.specs.Prelude.{All, Contains, slice_index}
+use Rattle.std.proofs.Common.{◌≡◌, ℕ, zero, suc, ◌+◌, ◌<◌, Bool, true, false, List, [], ◌∷◌, ◌++◌, length, map, sym, ap, ◌∙◌, subst, arith}
+use Rattle.std.specs.Prelude.{All, slice_index}
 use Rattle.std.proofs.lemmas.List.FromFn.{length-map-range_with_len}
 use Rattle.agent_core.specs.Programs.{CoreProgram}
 use Rattle.agent_core.specs.Agents.{Agent, Ask, Skip, Tell, Then, Else, Par, New, Hence, Next, agent_at}
@@ -9,10 +9,10 @@ use Rattle.agent_core.specs.Facts.{Scoped, IsProgram}
 use Rattle.agent_core.specs.Strata.{Asked, Edge, asked_by, agent_edges, edges, In, Each, Stratifies, HasNoTable}
 use Rattle.agent_core.specs.Strata as strata
 use Rattle.order_tables.specs.declared.arc.Arc.{Arc}
-use Rattle.order_tables.specs.Arcs.{Meets, Within, HasTable, Chain, Reaches}
+use Rattle.order_tables.specs.Arcs.{Meets, Within, HasTable, Chain}
 use Rattle.order_tables.proofs.Tables.{IsBad, bad-none, good_arcs, ranks, ranks-meet, ranks-below}
 use Rattle.strata.specs.Items.{arc, AskInside}
-use Rattle.strata.proofs.Members.{in_map, map_in, in_each, join, each_all, all_each, in_contains, contains_in}
+use Rattle.strata.proofs.Members.{in_map, map_in, join, each_all, all_each, in_contains, contains_in}
 use Rattle.strata.proofs.Under.{edge_of, scope-inside}
 
 abbrev pub edge_arc : Edge → Arc

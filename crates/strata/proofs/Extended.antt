@@ -1,5 +1,5 @@
 -- Each table that stratifies a program comes from one of its cells and nodes that meets the arcs: a node gets the least number of a cell that is told below it.
-use Rattle.std.proofs.Common.{◌≡◌, ◌⊎◌, inl, inr, ℕ, zero, suc, ◌+◌, ◌<◌, ◌≤◌, Bool, true, false, List, [], ◌∷◌, ◌++◌, length, map, refl, sym, ap, ◌∙◌, subst, arith}
+use Rattle.std.proofs.Common.{◌≡◌, inl, inr, ℕ, zero, suc, ◌+◌, ◌<◌, ◌≤◌, Bool, true, false, List, [], ◌∷◌, ◌++◌, length, map, refl, sym, ap, ◌∙◌, subst, arith}
 use Rattle.std.specs.Prelude.{All, slice_index, min, max, if◌then◌else◌}
 use Rattle.std.specs.List.{range_with_len}
 use Rattle.std.proofs.lemmas.List.{get_or_append_left, get_or-append-add}
@@ -11,7 +11,7 @@ use Rattle.agent_core.specs.Strata.{Edge, edges, In, Each, Stratifies}
 use Rattle.agent_core.specs.Strata as strata
 use Rattle.order_tables.specs.declared.arc.Arc.{Arc}
 use Rattle.order_tables.specs.Arcs.{Meets, Within}
-use Rattle.strata.specs.Items.{arc, arcs}
+use Rattle.strata.specs.Items.{arcs}
 use Rattle.strata.proofs.Members.{in_each, each_all, each-map}
 use Rattle.strata.proofs.Under.{tells}
 use Rattle.strata.proofs.Grounded.{ToldArc, DownArc, AskArc, Grounded, arcs-grounded}

@@ -1,16 +1,15 @@
 -- What each arc of a program stands for.
-use Rattle.std.proofs.Common.{◌≡◌, ◌⊎◌, inl, inr, ℕ, suc, ◌+◌, ◌<◌, Bool, false, true, List, [], ◌∷◌, ◌++◌, Some, length, map, refl, sym, ap, ◌∙◌, subst, arith}
+use Rattle.std.proofs.Common.{◌≡◌, ◌⊎◌, inl, inr, ℕ, suc, ◌+◌, ◌<◌, Bool, false, true, List, [], ◌∷◌, Some, length, map, refl, sym, subst, arith}
 use Rattle.std.specs.Prelude.{slice_get}
 use Rattle.std.proofs.lemmas.Option.{slice_get_within}
 use Rattle.agent_core.specs.declared.node.Node.{Node}
 use Rattle.agent_core.specs.declared.node.Node.TheVariants as nodes
 use Rattle.agent_core.specs.Programs.{CoreProgram}
 use Rattle.agent_core.specs.Agents.{Agent, Ask, Skip, Tell, Then, Else, Par, New, Hence, Next, agent_at}
-use Rattle.agent_core.specs.Listing.{size, listing}
+use Rattle.agent_core.specs.Listing.{size}
 use Rattle.agent_core.specs.Facts.{IsProgram}
 use Rattle.agent_core.specs.Strata.{Asked, Edge, asked_by, edges, tells_of, In, Each}
 use Rattle.agent_core.proofs.Standing.{stands-head}
-use Rattle.agent_core.proofs.Places.{GoesDown}
 use Rattle.order_tables.specs.declared.arc.Arc.{Arc}
 use Rattle.strata.specs.Items.{arc, node_arcs, arcs_from, arcs, AskInside, NodeInside, AllInside}
 use Rattle.strata.proofs.Members.{join, in_left, in_right}

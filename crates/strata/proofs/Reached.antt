@@ -1,5 +1,5 @@
 -- Cells that arcs join are joined by edges.
-use Rattle.std.proofs.Common.{◌≡◌, ◌⊎◌, inl, inr, ℕ, zero, suc, ◌+◌, ◌<◌, List, length, refl, sym, subst, arith}
+use Rattle.std.proofs.Common.{◌≡◌, inl, inr, ℕ, zero, suc, ◌+◌, ◌<◌, length, refl, sym, subst, arith}
 use Rattle.agent_core.specs.Programs.{CoreProgram}
 use Rattle.agent_core.specs.Facts.{IsProgram}
 use Rattle.agent_core.specs.Strata.{Edge, edges, In, Each}
@@ -7,7 +7,7 @@ use Rattle.agent_core.specs.Strata as strata
 use Rattle.order_tables.specs.declared.arc.Arc.{Arc}
 use Rattle.order_tables.specs.Arcs.{Chain, Reaches}
 use Rattle.order_tables.proofs.Lists.{all_at}
-use Rattle.strata.specs.Items.{arc, arcs}
+use Rattle.strata.specs.Items.{arcs}
 use Rattle.strata.proofs.Members.{each_all, each-map}
 use Rattle.strata.proofs.Under.{tells}
 use Rattle.strata.proofs.Grounded.{ToldArc, DownArc, AskArc, Grounded, arcs-grounded}

@@ -1,15 +1,17 @@
 -- What the search for the first case and the table of the arcs say of a program.
-use Rattle.std.proofs.Common.{◌≡◌, ◌⊎◌, inl, inr, ℕ, zero, suc, ◌+◌, ◌<◌, ◌≤◌, Bool, true, false, List, [], ◌∷◌, ◌++◌, Some, None, Vec, length, map, take, refl, sym, ap, ◌∙◌, subst, arith}
-use Rattle.std.specs.Prelude.{Option, IsTrue, All, Contains, slice_index, slice_index_or, if◌then◌else◌}
+use Rattle.std.proofs.Common.{◌≡◌, inl, ℕ, ◌+◌, ◌<◌, Bool, true, false, List, ◌∷◌, Some, None, Vec, length, take, refl, sym, ap, ◌∙◌, subst, arith}
+use Rattle.std.specs.Prelude.{Option, All, slice_index, slice_index_or}
 use Rattle.std.specs.declared.alloc.Global.{Global}
 use Rattle.std.proofs.lemmas.List.{length-take-le, get_or-take}
+use Rattle.agent_core.specs.declared.node.CellDecl.{CellDecl}
+use Rattle.agent_core.specs.declared.node.Node.{Node}
 use Rattle.agent_core.specs.Programs.{CoreProgram}
 use Rattle.agent_core.specs.Facts.{IsProgram}
 use Rattle.agent_core.specs.Strata.{Edge, edges, cases, In, Each, Stratifies, IsLeastTable, HasNoTable, IsFirstCase}
 use Rattle.agent_core.specs.Strata as strata
 use Rattle.order_tables.specs.declared.arc.Arc.{Arc}
-use Rattle.order_tables.specs.Arcs.{Meets, HasTable, IsLeast, Reaches}
-use Rattle.order_tables.specs.Reaching.{list_at, has, AreReaching}
+use Rattle.order_tables.specs.Arcs.{Meets, Within, HasTable, IsLeast}
+use Rattle.order_tables.specs.Reaching.{AreReaching}
 use Rattle.order_tables.proofs.Lists.{all_by, any_default}
 use Rattle.order_tables.proofs.Spread.{true_false}
 use Rattle.order_tables.proofs.Tables.{IsBad}
@@ -18,20 +20,27 @@ use Rattle.strata.specs.declared.fault.StrataFault.TheVariants.{NotStratified}
 use Rattle.strata.specs.Items.{arcs}
 use Rattle.strata.specs.Search.{first_that, reaches_back, edge_case, named}
 use Rattle.strata.specs.Answers.{NamesFirstCase, HasNoFirstCase}
-use Rattle.strata.proofs.Members.{in_left, in_right, in_each, each_in, each_all, map_in, contains_in}
-use Rattle.strata.proofs.EdgeArcs.{edge_arc, edge_arcs, from_chain, edges-table, back-none, edges-inside, good-table, least-inside}
+use Rattle.strata.proofs.Members.{in_left, in_right, in_each, each_in, map_in, contains_in}
+use Rattle.strata.proofs.EdgeArcs.{edge_arc, edge_arcs, from_chain, back-none, edges-inside, good-table, least-inside}
 use Rattle.strata.proofs.Carried.{arcs-meet_edges, edges-arcs}
 use Rattle.strata.proofs.Reached.{arcs-edges}
-use Rattle.strata.proofs.Extended.{full, full-meets, at_cell}
+use Rattle.strata.proofs.Extended.{full, full-meets, at_cell, arcs-within}
 use Rattle.strata.proofs.CaseEdges.{case-edge, edge-case}
 use Rattle.strata.proofs.Searches.{IsFirst, first-is, none-is}
 
--- what was found of a list of arcs that is the program's
-pub rows_are : (p : CoreProgram) (list : List Arc) (size count : ℕ) (rows same : List (Vec Bool Global)) → list ≡ arcs p → size ≡ length p.cells + length p.nodes → count ≡ length p.cells → same ≡ rows
-    → AreReaching list size count rows → AreReaching (arcs p) (length p.cells + length p.nodes) (length p.cells) same
-rows_are p list size count rows same el es ec er h =
-    subst (AreReaching (arcs p) (length p.cells + length p.nodes) (length p.cells)) (sym er) (subst (λ (n : ℕ). AreReaching (arcs p) (length p.cells + length p.nodes) n rows) ec
-    (subst (λ (n : ℕ). AreReaching (arcs p) n count rows) es (subst (λ (xs : List Arc). AreReaching xs size count rows) el h)))
+sum_of : (p : CoreProgram) (cs : List CellDecl) (ns : List Node) → cs ≡ p.cells → ns ≡ p.nodes → length cs + length ns ≡ length p.cells + length p.nodes
+sum_of p cs ns ec en = ap (λ (xs : List CellDecl). length xs + length ns) ec ∙ ap (λ (xs : List Node). length p.cells + length xs) en
+
+-- what was found of lists that are the program's
+pub rows_are : (p : CoreProgram) (cs : List CellDecl) (ns : List Node) (list : List Arc) (rows same : List (Vec Bool Global)) → cs ≡ p.cells → ns ≡ p.nodes → list ≡ arcs p → same ≡ rows
+    → AreReaching list (length cs + length ns) (length cs) rows → AreReaching (arcs p) (length p.cells + length p.nodes) (length p.cells) same
+rows_are p cs ns list rows same ec en el er h =
+    subst (AreReaching (arcs p) (length p.cells + length p.nodes) (length p.cells)) (sym er) (subst (λ (n : ℕ). AreReaching (arcs p) (length p.cells + length p.nodes) n rows) (ap length ec)
+    (subst (λ (n : ℕ). AreReaching (arcs p) n (length cs) rows) (sum_of p cs ns ec en) (subst (λ (xs : List Arc). AreReaching xs (length cs + length ns) (length cs) rows) el h)))
+
+pub list-within : (p : CoreProgram) → IsProgram p → (cs : List CellDecl) (ns : List Node) (list : List Arc) → cs ≡ p.cells → ns ≡ p.nodes → list ≡ arcs p → All (Within (length cs + length ns)) list
+list-within p is cs ns list ec en el =
+    subst (λ (n : ℕ). All (Within n) list) (sym (sum_of p cs ns ec en)) (subst (λ (es : List Arc). All (Within (length p.cells + length p.nodes)) es) (sym el) (arcs-within p is))
 
 module _ (p : CoreProgram) (is : IsProgram p) (rows : List (Vec Bool Global)) (are : AreReaching (arcs p) (length p.cells + length p.nodes) (length p.cells) rows) where
   abbrev test : Edge → Bool
@@ -118,20 +127,31 @@ module _ (p : CoreProgram) (is : IsProgram p) (t : List ℕ) (long : length t �
       let m : strata.Meets t e = in_each (strata.Meets t) (edges p) e (arcs-meet_edges p is.tree t meets) i in
       omega arith
 
-  pub cut-stratifies : Stratifies p cut
+  cut-stratifies : Stratifies p cut
   cut-stratifies = record { long = length-take-le cells t (omega arith); each = each_in (strata.Meets cut) (edges p) cut-meets }
 
-  pub cut-least : IsLeastTable p cut
+  cut-least : IsLeastTable p cut
   cut-least other s c lt =
       let h = least (full p other s) (full-meets p other s is) c (omega arith) in
       let a = front c lt in
       let b = at_cell p other s c lt in
       omega arith
 
-  pub cut-small : All (λ n. n < 1024) cut
+  cut-small : All (λ n. n < 1024) cut
   cut-small k d lt =
       let l = cut-stratifies.long in
       let few = is.limits.few_cells in
       let below = least-inside p is cut cut-stratifies cut-least k (omega arith) in
       let same : slice_index_or cut k d ≡ slice_index cut k = any_default cut k d 0 lt in
       omega arith
+
+-- of lists that are the program's
+pub table-is : (p : CoreProgram) → IsProgram p → (cs : List CellDecl) (ns : List Node) (list : List Arc) (t found : List ℕ) → cs ≡ p.cells → ns ≡ p.nodes → list ≡ arcs p
+    → length t ≡ length cs + length ns → All (Meets t) list → IsLeast list t → found ≡ take (length cs) t
+    → Stratifies p found × IsLeastTable p found × All (λ n. n < 1024) found
+table-is p is cs ns list t found ec en el long meets least ef =
+    let same : found ≡ take (length p.cells) t = ef ∙ ap (λ (xs : List CellDecl). take (length xs) t) ec in
+    let whole = long ∙ sum_of p cs ns ec en in
+    let own : All (Meets t) (arcs p) = subst (λ (es : List Arc). All (Meets t) es) el meets in
+    let low : IsLeast (arcs p) t = subst (λ (es : List Arc). IsLeast es t) el least in
+    subst (λ (xs : List ℕ). Stratifies p xs × IsLeastTable p xs × All (λ n. n < 1024) xs) (sym same) (cut-stratifies p is t whole own low, cut-least p is t whole own low, cut-small p is t whole own low)

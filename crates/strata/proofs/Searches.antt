@@ -1,21 +1,20 @@
 -- The first of a list that passes, and the search for it step by step.
-use Rattle.std.proofs.Common.{◌≡◌, ◌⊎◌, inl, inr, ℕ, zero, suc, ◌+◌, ◌-◌, ◌<◌, ◌≤◌, Bool, true, false, List, [], ◌∷◌, ◌++◌, Some, None, length, map, drop, refl, sym, ap, ◌∙◌, subst, arith, append_assoc}
-use Rattle.std.specs.Prelude.{Option, slice_get, slice_index_or, flat_map, if◌then◌else◌}
+use Rattle.std.proofs.Common.{◌≡◌, ◌⊎◌, inl, inr, ℕ, suc, ◌+◌, ◌-◌, ◌<◌, ◌≤◌, Bool, true, false, List, [], ◌∷◌, ◌++◌, Some, None, length, map, drop, refl, sym, ap, ◌∙◌, subst, arith, append_assoc}
+use Rattle.std.specs.Prelude.{slice_get, slice_index_or, flat_map, if◌then◌else◌}
 use Rattle.std.specs.List.{range_with_len}
-use Rattle.std.proofs.lemmas.List.{at_drop_more, at_drop_all, map-append}
+use Rattle.std.proofs.lemmas.List.{at_drop_more, map-append}
 use Rattle.std.proofs.lemmas.Option.{slice_get-get_or}
 use Rattle.token_system.specs.declared.cell.Token.{Token}
 use Rattle.agent_core.specs.declared.node.Node.{Node}
 use Rattle.agent_core.specs.declared.node.Node.TheVariants as nodes
 use Rattle.agent_core.specs.Programs.{CoreProgram}
-use Rattle.agent_core.specs.Agents.{Agent, Ask, Skip, Tell, Then, Else, Par, New, Hence, Next, agent_of, agent_at}
+use Rattle.agent_core.specs.Agents.{Agent, Ask, Tell, Else, agent_of, agent_at}
 use Rattle.agent_core.specs.Listing.{size, IsListing}
-use Rattle.agent_core.specs.Strata.{Edge, Each, In, tells_of, cases_at, cases}
+use Rattle.agent_core.specs.Strata.{Edge, Each, tells_of, cases_at, cases}
 use Rattle.agent_core.proofs.Parts.{IsPart}
-use Rattle.agent_core.proofs.Places.{IsNodeAt, node_of_listing}
+use Rattle.agent_core.proofs.Places.{node_of_listing}
 use Rattle.strata.specs.declared.search.Case.{Case}
 use Rattle.strata.specs.Search.{first_that, told_below, pairs_with, pairs, edge_case, named}
-use Rattle.strata.proofs.Members.{in_right, in_left, map_in, flat_map_in}
 
 -- WHAT IT SAYS
 

@@ -1,14 +1,12 @@
 -- Each node of a program under the path of asks above it.
-use Rattle.std.proofs.Common.{◌≡◌, ◌⊎◌, inl, inr, ℕ, suc, ◌+◌, ◌<◌, ◌≤◌, Bool, false, true, List, [], ◌∷◌, ◌++◌, length, map, refl, sym, ap, ◌∙◌, subst, arith}
-use Rattle.std.specs.Prelude.{slice_get}
+use Rattle.std.proofs.Common.{◌≡◌, ◌⊎◌, inl, inr, ℕ, suc, ◌+◌, ◌<◌, Bool, false, true, List, [], ◌∷◌, ◌++◌, length, map, sym, ap, ◌∙◌, subst, arith}
 use Rattle.std.proofs.lemmas.Option.{slice_get_within}
-use Rattle.token_system.specs.declared.cell.Token.{Token}
 use Rattle.agent_core.specs.declared.node.Node.{Node}
 use Rattle.agent_core.specs.Programs.{CoreProgram}
 use Rattle.agent_core.specs.Agents.{Agent, Ask, Skip, Tell, Then, Else, Par, New, Hence, Next, agent_at}
 use Rattle.agent_core.specs.Listing.{size, listing}
 use Rattle.agent_core.specs.Facts.{AreInScope, Scoped, IsProgram}
-use Rattle.agent_core.specs.Strata.{Asked, Edge, asked_by, agent_edges, edges, tells_of, In, Each}
+use Rattle.agent_core.specs.Strata.{Asked, Edge, asked_by, agent_edges, edges, tells_of, In}
 use Rattle.agent_core.proofs.Standing.{StandsAt, stands-itself, stands-tail, stands-within}
 use Rattle.agent_core.proofs.ListingTrees.{length-listing, size-some, left_listed, right_listed, listed_tree, root_tree}
 use Rattle.agent_core.proofs.Places.{GoesDown, each_node, size-root}

@@ -47,13 +47,7 @@ fn push_told(list: &mut Vec<Arc>, told: &Constraint, from: u32) -> Result<(), Me
 }
 
 /// The arcs of node n, which is one of `size` nodes that are numbered after so many cells.
-fn push_node(
-    list: &mut Vec<Arc>,
-    cells: u32,
-    size: u32,
-    n: u32,
-    node: &Node,
-) -> Result<(), Memory>
+fn push_node(list: &mut Vec<Arc>, cells: u32, size: u32, n: u32, node: &Node) -> Result<(), Memory>
     requires n { n < size }
     requires inside { NodeInside cells size node.now }
     requires few { cells + size < 2 ^ 31 }

@@ -8,3 +8,6 @@ mod search;
 
 pub use fault::StrataFault;
 pub use least::strata;
+
+#[cfg(test)]
+mod tests;

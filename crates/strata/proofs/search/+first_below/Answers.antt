@@ -1,5 +1,5 @@
 -- A node by its kind.
-use Rattle.std.proofs.Common.{◌≡◌, ℕ, List, sym, ap, ◌∙◌, arith, inl, inr, refl}
+use Rattle.std.proofs.Common.{ℕ, List, sym, ap, ◌∙◌, arith, refl}
 use Rattle.agent_core.specs.declared.node.Node.TheVariants as nodes
 use Rattle.strata.specs.Search.{first_that, pairs, reaches_back}
 use Rattle.strata.proofs.Searches.{node_read, below-tell, below-part, below-par, below-none, part-behind, par-behind, par-hit, par-miss}

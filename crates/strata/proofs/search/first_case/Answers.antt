@@ -1,11 +1,10 @@
 -- The next node.
-use Rattle.std.proofs.Common.{◌≡◌, ◌+◌, ◌<◌, ℕ, List, Some, None, length, sym, ap, ◌∙◌, subst, refl, arith}
-use Rattle.std.specs.Prelude.{Option}
+use Rattle.std.proofs.Common.{ℕ, List, length, sym, ap, ◌∙◌, subst, refl, arith}
 use Rattle.agent_core.specs.declared.node.Node.{Node}
 use Rattle.agent_core.specs.declared.node.Node.TheVariants as nodes
 use Rattle.strata.specs.Items.{AskInside, AllInside}
 use Rattle.strata.specs.Search.{first_that, told_below, pairs, reaches_back, named}
-use Rattle.strata.proofs.Searches.{program_read, part-behind, case-hit, case-miss, case-skip}
+use Rattle.strata.proofs.Searches.{program_read, case-hit, case-miss, case-skip}
 use Rattle.strata.proofs.Grounded.{program-inside}
 use Rattle.strata.proofs.search.first_case.Goals.{in-Else+in_default-first_below, in_default}
 use Rattle.strata.proofs.search.first_case.Goals as goal

@@ -1,5 +1,5 @@
 -- Below the nodes so far there is none.
-use Rattle.std.proofs.Common.{◌≡◌, ◌-◌, length}
+use Rattle.std.proofs.Common.{◌≡◌}
 use Rattle.agent_core.specs.Strata.{cases}
 use Rattle.strata.specs.Search.{first_that, reaches_back, edge_case}
 use Rattle.strata.proofs.Searches.{cases_from}

@@ -1,5 +1,5 @@
 -- The next told cell.
-use Rattle.std.proofs.Common.{◌≡◌, ℕ, List, map, sym, ap, ◌∙◌}
+use Rattle.std.proofs.Common.{map, sym, ap, ◌∙◌}
 use Rattle.agent_core.specs.Agents.{Ask}
 use Rattle.strata.specs.Search.{first_that, pairs, reaches_back}
 use Rattle.strata.proofs.Searches.{told-hit, told-miss}
