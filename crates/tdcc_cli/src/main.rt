@@ -8,14 +8,16 @@ ghost use Rattle.std.specs.Process.{exit_status};
 ghost use Rattle.tdcc_base.specs.Statuses.{status_number};
 ghost use Rattle.tdcc_base.specs.Written.{Tells};
 ghost use Rattle.tdcc_base.specs.declared.status.Status.{Status as StatusValue};
+ghost use Rattle.tdcc_base.specs.declared.status.Status.TheVariants as statuses;
 ghost use Rattle.tdcc_tool.specs.Answers.{Answers};
 ghost use Rattle.tdcc_tool.specs.Ends.{IsSettled};
+ghost use Rattle.tdcc_tool.specs.Messages.{memory_line};
 
 use std::alloc::Global;
 use std::process::ExitCode;
 use std::thread::Threads;
 use std::{env, io};
-use tdcc_base::{OpenGate, Sink, Source, StdSink, StdSource};
+use tdcc_base::{OpenGate, Sink, Source, Status, StdSink, StdSource, write_all};
 use tdcc_tool::tdcc;
 
 /// The words behind the program's name. Where one of them is no text there are none, as no command
@@ -49,10 +51,21 @@ fn answered<R: Threads + Sync, S: Source, K: Sink, E: Sink>(
     ExitCode::from(status.number())
 }
 
-fn main(rt: HostRuntime) -> io::Result<ExitCode> {
-    let words = words(&rt)?;
+/// Tells that there is no memory for the words, and gives the exit code of that.
+fn without_words<E: Sink>(err: &mut E) -> ExitCode
+    ensures code { exit_status result ≡ status_number statuses.Memory }
+    ensures told { Tells (E.written err.old) (E.written err.new) (E.faults err.old) (E.faults err.new) memory_line }
+{
+    let _ = write_all(err, b"tdcc: out of memory\n");
+    ExitCode::from(Status::Memory.number())
+}
+
+fn main(rt: HostRuntime) -> ExitCode {
+    let mut err = StdSink::new(rt.stderr());
+    let Ok(words) = words(&rt) else {
+        return without_words(&mut err);
+    };
     let mut source = StdSource::new(rt.stdin());
     let mut out = StdSink::new(rt.stdout());
-    let mut err = StdSink::new(rt.stderr());
-    Ok(answered(&rt, rt.alloc(), &words, &mut source, &mut out, &mut err))
+    answered(&rt, rt.alloc(), &words, &mut source, &mut out, &mut err)
 }
