@@ -1,0 +1,7 @@
+use Rattle.std.proofs.Common.{All}
+use Rattle.instant_net.specs.Programs.{root_leaves}
+use Rattle.instant_net.specs.Collecting.{IsSpokenBy}
+use Rattle.instant_net.proofs.collecting.local_names.Given as goal
+
+abbrev pub invariant-loop-root : goal.invariant-loop-root
+invariant-loop-root l = All (IsSpokenBy l.program (root_leaves l.program l.roots l.t)) l.names.keys

@@ -1,0 +1,10 @@
+use Rattle.std.proofs.Common.{ap, ◌∙◌, arith, ◌++◌}
+use Rattle.instant_net.specs.Programs.{root_leaves}
+use Rattle.instant_net.proofs.Cells.{cells-are}
+use Rattle.instant_net.proofs.collecting.net_cells.Goals as goal
+
+pub returns : goal.returns
+returns c =
+    cells-are c.args.program.now c.args.levels.now (root_leaves c.args.program.now c.args.roots.now c.args.t) c.add_locals.new.self.cells.items c.add_locals.new.self.words c.in_ok-names.names.keys c.add_declared.ensures.program
+    c.in_ok-add_locals.ensures.row (c.in_ok-add_locals.ensures.names ∙ ap (λ xs. xs ++ c.in_ok-names.names.keys) c.in_ok-add_declared.ensures.names) c.in_ok-names.ensures c.in_ok-add_locals.ensures.order
+    (let n = c.len.ensures in let m = c.in_ok-number_of.ensures.fits in omega arith)

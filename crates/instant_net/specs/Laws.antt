@@ -1,0 +1,31 @@
+-- What is proved of the nets of a program's roots.
+use Rattle.std.specs.Prelude.{◌≡◌, ◌↔◌, ℕ, List}
+use Rattle.std.specs.List.{list_all}
+use Rattle.token_system.specs.Stores.{Valuation}
+use Rattle.agent_core.specs.declared.node.Closure.{Closure}
+use Rattle.agent_core.specs.Programs.{CoreProgram}
+use Rattle.agent_core.specs.Stores.{IsInput}
+use Rattle.agent_core.specs.Strata.{Stratifies}
+use Rattle.agent_core.specs.RootOutputs.{IsOutputOf}
+use Rattle.agent_core.specs.Leaves as core
+use Rattle.agent_laws.specs.LeafRests as core_rests
+use Rattle.instant_net.specs.NamedLeaves.{leaves_rest}
+use Rattle.instant_net.specs.Nets.{Flat, net_leaves}
+use Rattle.instant_net.specs.Opened.{IsNetOf}
+use Rattle.instant_net.specs.Outputs.{IsOutput, IsStratified}
+
+-- where the table stratifies the program, the net of any roots is stratified
+abbrev pub NetsAreStratified : Type 0
+NetsAreStratified = (p : CoreProgram) (table : List ℕ) (rs : List Closure) (t : ℕ) (net : Flat) → IsNetOf p table rs t net → Stratifies p table → IsStratified net
+
+-- stores rest for the leaves of the net exactly where they rest for the leaves of the roots
+abbrev pub NetsRestByRoots : Type 0
+NetsRestByRoots =
+    (p : CoreProgram) (table : List ℕ) (rs : List Closure) (t : ℕ) (net : Flat) → IsNetOf p table rs t net
+    → (u v : Valuation) → leaves_rest (net_leaves net) u v ≡ list_all (core_rests.leaf_rests p u v) (core.leaves p rs t)
+
+-- the outputs of the net are those of the roots, whether the program is stratified or not
+abbrev pub NetsHaveRootOutputs : Type 0
+NetsHaveRootOutputs =
+    (p : CoreProgram) (table : List ℕ) (rs : List Closure) (t : ℕ) (net : Flat) → IsNetOf p table rs t net
+    → (i v : Valuation) → IsInput p i → IsOutput net i v ↔ IsOutputOf p rs t i v

@@ -1,0 +1,10 @@
+pub mod NamedLeaves
+pub mod Nets
+pub mod Readers
+pub mod Programs
+pub mod Words
+pub mod Opened
+pub mod Outputs
+pub mod Walks
+pub mod Collecting
+pub mod Laws

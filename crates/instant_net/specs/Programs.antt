@@ -1,0 +1,49 @@
+-- The leaves of a program's roots, with their cells by name: what the net of these roots is to say. This project's own.
+use Rattle.std.specs.Prelude.{ℕ, suc, ◌+◌, true, false, List, [], ◌∷◌, ◌++◌, map, slice_get, Option, Some, None}
+use Rattle.token_system.specs.declared.cell.Token.{Token}
+use Rattle.agent_core.specs.declared.node.Closure.{Closure}
+use Rattle.agent_core.specs.declared.node.CellDecl.{CellDecl}
+use Rattle.agent_core.specs.Agents.{Agent, Ask, Skip, Tell, Then, Else, Par, New, Hence, Next}
+use Rattle.agent_core.specs.Programs.{CoreProgram}
+use Rattle.agent_core.specs.Names.{name_of}
+use Rattle.agent_core.specs.Closures.{closure}
+use Rattle.agent_core.specs.Leaves as core
+use Rattle.instant_net.specs.NamedLeaves.{Named, Guard, Kind, Idle, Tells, StartsHence, StartsNext, Leaf}
+
+abbrev pub token_named : CoreProgram → List ℕ → ℕ → Token → Option CellDecl → List Named
+token_named p b cell t None = []
+token_named p b cell t (Some d) = record { name = name_of p b cell; cell = d.cell; token = t } ∷ []
+
+-- the constraint under births, with its cells by name
+abbrev pub ask_named : CoreProgram → List ℕ → Ask → List Named
+ask_named p b [] = []
+ask_named p b (x ∷ ask) = token_named p b x.0 x.1 (slice_get p.cells x.0) ++ ask_named p b ask
+
+abbrev pub guard_named : CoreProgram → core.Guard → Guard
+guard_named p (core.Asks b ask) = record { strict = false; ask = ask_named p b ask }
+guard_named p (core.Denies b ask) = record { strict = true; ask = ask_named p b ask }
+
+-- what the agent of node n is as a leaf: a hence or a next starts its body, which has the number behind its own, under its births
+abbrev pub kind_named : CoreProgram → ℕ → List ℕ → Agent → Kind
+kind_named p n b (Tell told) = Tells (ask_named p b told)
+kind_named p n b (Hence a) = StartsHence (closure (suc n) b)
+kind_named p n b (Next a) = StartsNext (closure (suc n) b)
+kind_named p n b _ = Idle
+
+abbrev pub leaf_named : CoreProgram → core.Leaf → Leaf
+leaf_named p l = record { kind = kind_named p l.node l.births l.agent; path = map (guard_named p) l.path }
+
+-- the leaves of these roots at instant t
+abbrev pub root_leaves : CoreProgram → List Closure → ℕ → List Leaf
+root_leaves p rs t = map (leaf_named p) (core.leaves p rs t)
+
+-- how many leaves an agent has within the instant
+abbrev pub leaf_count : Agent → ℕ
+leaf_count Skip = 1
+leaf_count (Tell told) = 1
+leaf_count (Then ask a) = leaf_count a
+leaf_count (Else ask a) = leaf_count a
+leaf_count (Par a b) = leaf_count a + leaf_count b
+leaf_count (New cell a) = leaf_count a
+leaf_count (Hence a) = 1
+leaf_count (Next a) = 1

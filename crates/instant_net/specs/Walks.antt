@@ -1,0 +1,71 @@
+-- Guards and leaves as a walk over the nodes of an instant lists them, and what they say by name. This project's own.
+use Rattle.std.specs.Prelude.{◌≡◌, ℕ, suc, ◌+◌, Bool, All, length, List, [], ◌∷◌, ◌++◌, map, set, slice_get, Option, Some}
+use Rattle.token_system.specs.declared.cell.Token.{Token}
+use Rattle.token_system.specs.declared.name.CellName.{CellName}
+use Rattle.agent_core.specs.Agents.{Ask, agent_at}
+use Rattle.agent_core.specs.Programs.{CoreProgram}
+use Rattle.agent_core.specs.Leaves as core
+use Rattle.agent_core.specs.declared.node.CellDecl.{CellDecl}
+use Rattle.agent_core.specs.Names.{Names}
+use Rattle.instant_net.specs.declared.parts.Atom.{Atom}
+use Rattle.instant_net.specs.declared.parts.NetCell.{NetCell}
+use Rattle.instant_net.specs.declared.parts.NetGuard.{NetGuard}
+use Rattle.instant_net.specs.declared.parts.NetLeaf.{NetLeaf}
+use Rattle.instant_net.specs.NamedLeaves.{Guard, Leaf}
+use Rattle.instant_net.specs.Nets.{AtomFits, named_at, named, named_guard, named_kind, atoms_of}
+use Rattle.instant_net.specs.Programs.{token_named, ask_named, guard_named, leaf_named}
+
+-- the cell is the one that its name says
+pub record IsNamed (p : CoreProgram) (c : NetCell) : Type 0 where
+  pub decl : CellDecl
+  pub named : Names p c.name decl
+  pub cell : c.cell ≡ decl.cell
+
+-- the atoms are those of the constraint under the births
+pub record AreAtomsOf (p : CoreProgram) (cells : List NetCell) (b : List ℕ) (ask : Ask) (atoms : List Atom) : Type 0 where
+  pub same : named cells atoms ≡ ask_named p b ask
+  pub fit : All (AtomFits cells) atoms
+
+-- the place is that of a cell with this name
+pub record IsPlaceOf (cells : List NetCell) (n : CellName) (place : ℕ) : Type 0 where
+  pub found : NetCell
+  pub stands : slice_get cells place ≡ Some found
+  pub named : found.name ≡ n
+
+-- the atom is that of the token under the births
+pub record IsAtomOf (p : CoreProgram) (cells : List NetCell) (b : List ℕ) (x : ℕ × Token) (a : Atom) : Type 0 where
+  pub same : named_at (slice_get cells a.cell) a ≡ token_named p b x.0 x.1 (slice_get p.cells x.0)
+  pub fits : AtomFits cells a
+
+-- a guard of these, whose leaves begin with the one of this number
+pub record IsBegun (strict : Bool) (ask : List Atom) (above : Option ℕ) (first : ℕ) (g : NetGuard) : Type 0 where
+  pub strict_is : g.strict ≡ strict
+  pub ask_is : g.ask ≡ ask
+  pub above_is : g.above ≡ above
+  pub first_is : g.first ≡ first
+
+-- guards after the leaves of the one with number k end before this leaf
+pub record IsEnded (guards guards' : List NetGuard) (k past : ℕ) : Type 0 where
+  pub one : NetGuard
+  pub stands : slice_get guards k ≡ Some one
+  pub ended : guards' ≡ set guards k (record one { past = past })
+
+-- these guards and leaves stand below the guard `last` and the path that leads to it, the first guard has number k and the first leaf number l, and the leaves say this
+pub data Grown (cells : List NetCell) : Option ℕ → List Guard → ℕ → ℕ → List NetGuard → List NetLeaf → List Leaf → Type 0 where
+  none : (last : Option ℕ) (path : List Guard) (k l : ℕ) → Grown cells last path k l [] [] []
+  leaf : (path : List Guard) (k l : ℕ) (x : NetLeaf) → All (AtomFits cells) (atoms_of x.kind)
+      → Grown cells x.last path k l [] (x ∷ []) (record { kind = named_kind cells x.kind; path = path } ∷ [])
+  under : (path : List Guard) (k l : ℕ) (g : NetGuard) (gs : List NetGuard) (ls : List NetLeaf) (out : List Leaf) → All (AtomFits cells) g.ask → g.first ≡ l → g.past ≡ l + length ls
+      → Grown cells (Some k) (path ++ named_guard cells g ∷ []) (suc k) l gs ls out → Grown cells g.above path k l (g ∷ gs) ls out
+  beside : (last : Option ℕ) (path : List Guard) (k l : ℕ) (gs : List NetGuard) (ls : List NetLeaf) (out : List Leaf) (gs' : List NetGuard) (ls' : List NetLeaf) (out' : List Leaf)
+      → Grown cells last path k l gs ls out → Grown cells last path (k + length gs) (l + length ls) gs' ls' out'
+      → Grown cells last path k l (gs ++ gs') (ls ++ ls') (out ++ out')
+
+-- guards and leaves after those of node n were added, which is started at t under births b and stands below the guard `last`
+pub record Adds (p : CoreProgram) (cells : List NetCell) (t n : ℕ) (b : List ℕ) (last : Option ℕ) (guards guards' : List NetGuard) (leaves leaves' : List NetLeaf) : Type 0 where
+  pub more_guards : List NetGuard
+  pub more_leaves : List NetLeaf
+  pub guards_are : guards' ≡ guards ++ more_guards
+  pub leaves_are : leaves' ≡ leaves ++ more_leaves
+  pub grown : (path : List core.Guard)
+      → Grown cells last (map (guard_named p) path) (length guards) (length leaves) more_guards more_leaves (map (leaf_named p) (core.leaves_of t (agent_at p.nodes n) n b path))

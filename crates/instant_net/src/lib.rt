@@ -1,0 +1,22 @@
+//! One instant of a program, made flat: its cells, the asks above its leaves, and its leaves, and the words in which
+//! what is told of the cells is kept.
+#![tactic(auto)]
+
+mod collecting;
+mod counting;
+mod laws;
+mod net;
+mod numbers;
+mod opening;
+mod parts;
+mod walking;
+mod words;
+
+pub use laws::{net_outputs_law, net_rests_law, stratified_net_law};
+pub use net::Net;
+pub use opening::{NetFault, open_net};
+pub use parts::Atom;
+pub use words::{How, Told, Words, holds, open_words, put, runs, tell, value, words_store};
+
+#[cfg(test)]
+mod tests;

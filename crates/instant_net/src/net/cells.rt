@@ -1,0 +1,89 @@
+//! What is read off the cells of a net.
+ghost use Rattle.std.specs.Prelude.{◌≡◌, ◌+◌, ◌<◌, IsTrue, Some, length, option_map, slice_get};
+ghost use Rattle.token_system.specs.Domain.{is_bound};
+ghost use Rattle.token_system.specs.Tokens.{fits_kind};
+ghost use Rattle.instant_net.specs.Nets.{AtomFits};
+ghost use Rattle.instant_net.specs.Opened.{IsNet};
+ghost use Rattle.instant_net.specs.Readers.{stratum_of};
+ghost use Rattle.instant_net.specs.Words.{shifted as shifted_of, told_as as told_as_of, told_of};
+
+use crate::net::Net;
+use crate::parts::Atom;
+use crate::words::{How, Told};
+use token_system::{Cell, CellName, Kind, Token};
+
+/// What is added to a bound of a number, so that it is above 0.
+const OFFSET: i64 = 2_147_483_648;
+
+/// What is told to the lower bound of a number that clashes: it is above each upper bound.
+const CLASH: u64 = 4_294_967_296;
+
+impl Net {
+    /// The name of the cell.
+    pub fn cell_name(&self, cell: u32) -> &CellName
+        requires { cell < length self.now.cells }
+        ensures { option_map (λ c. c.name) (slice_get self.now.cells cell) ≡ Some result.now }
+    {
+        &self.cells[cell as usize].name
+    }
+
+    /// The kind and the domain of the cell.
+    pub fn cell(&self, cell: u32) -> Cell
+        requires { cell < length self.now.cells }
+        ensures cell { option_map (λ c. c.cell) (slice_get self.now.cells cell) ≡ Some result }
+        ensures net { IsNet self.now }
+    {
+        self.cells[cell as usize].cell
+    }
+
+    /// The stratum of the cell.
+    pub fn stratum(&self, cell: u32) -> u32
+        requires { cell < length self.now.cells }
+        ensures { result ≡ stratum_of (slice_get self.now.cells cell) }
+    {
+        self.cells[cell as usize].stratum
+    }
+
+    /// The place of the cell's first word.
+    pub(crate) fn first(&self, cell: u32) -> u32
+        requires { cell < length self.now.cells }
+        ensures { option_map (λ c. c.first) (slice_get self.now.cells cell) ≡ Some result }
+    {
+        self.cells[cell as usize].first
+    }
+
+    /// Where and how the token is told.
+    pub fn told(&self, atom: Atom) -> Told
+        requires { AtomFits self.now.cells atom }
+        ensures { result ≡ told_of self.now.cells atom }
+    {
+        let cell = &self.cells[atom.cell as usize];
+        told_as(cell.cell.kind, cell.first, atom.token)
+    }
+}
+
+// Where and how a token is told of a cell of this kind, whose first word this is.
+fn told_as(kind: Kind, first: u32, token: Token) -> Told
+    requires fits { IsTrue (fits_kind kind token) }
+    requires small { first + 1 < 4294967296 }
+    ensures { result ≡ told_as_of kind first token }
+{
+    let (word, how, bits) = match (kind, token) {
+        (Kind::Signal, Token::On) => (first, How::Or, 1),
+        (Kind::Signal, Token::Off) => (first, How::Or, 2),
+        (Kind::Signal, Token::Clash) => (first, How::Or, 3),
+        (Kind::Number, Token::AtLeast(k)) => (first, How::Max, shifted(k)),
+        (Kind::Number, Token::AtMost(k)) => (first + 1, How::Min, shifted(k)),
+        (Kind::Number, Token::Clash) => (first, How::Max, CLASH),
+        _ => (first, How::Or, 0),
+    };
+    Told { word, how, bits }
+}
+
+// A bound as the content of a word.
+pub(crate) fn shifted(k: i64) -> u64
+    requires { IsTrue (is_bound k) }
+    ensures { result ≡ shifted_of k }
+{
+    (k + OFFSET) as u64
+}

@@ -1,0 +1,82 @@
+//! What a net is made of.
+ghost use Rattle.std.specs.Prelude.{◌≡◌};
+
+use agent_core::Closure;
+use std::marker::Model;
+use token_system::{Cell, CellName, Token};
+
+/// A token of a cell of a net, which is named by its place among the net's cells.
+#[derive(Clone, Copy, Debug, PartialEq, Eq)]
+pub struct Atom {
+    pub cell: u32,
+    pub token: Token,
+}
+
+/// Atoms, in order.
+#[derive(Debug, Drop)]
+pub(crate) struct Atoms {
+    list: Vec<Atom>,
+}
+
+impl Model for Atoms {
+    ghost use Rattle.std.specs.Prelude.{List};
+    ghost use Rattle.instant_net.specs.declared.parts.Atom.{Atom};
+
+    ghost Value = { List Atom };
+
+    ghost view = { λ a. a.list.items };
+}
+
+impl Atoms {
+    pub(crate) fn make(list: Vec<Atom>) -> Atoms
+        ensures { result ≡ list.items }
+    {
+        Atoms { list }
+    }
+
+    pub(crate) fn list(&self) -> &[Atom]
+        ensures { result.now ≡ self.now }
+    {
+        self.list.as_slice()
+    }
+}
+
+/// A cell of a net: its name, its kind and domain, its stratum, and the place of its first word.
+#[derive(Debug, Drop)]
+pub(crate) struct NetCell {
+    pub(crate) name: CellName,
+    pub(crate) cell: Cell,
+    pub(crate) stratum: u32,
+    pub(crate) first: u32,
+}
+
+/// An ask above some leaves: whether it is that of an else, its constraint, the nearest guard above it, and the leaves
+/// below it, from the first of them up to the one past the last.
+#[derive(Debug, Drop)]
+pub(crate) struct NetGuard {
+    pub(crate) strict: bool,
+    pub(crate) ask: Atoms,
+    pub(crate) above: Option<u32>,
+    pub(crate) first: u32,
+    pub(crate) past: u32,
+}
+
+/// What a leaf is.
+#[derive(Debug, Drop)]
+pub(crate) enum LeafKind {
+    /// It does nothing.
+    Idle,
+    /// It tells the atoms.
+    Tells(Atoms),
+    /// It starts the closure at each later instant.
+    StartsHence(Closure),
+    /// It starts the closure at the next instant.
+    StartsNext(Closure),
+}
+
+/// A leaf, and the last guard above it.
+#[derive(Debug, Drop)]
+pub(crate) struct NetLeaf {
+    pub(crate) kind: LeafKind,
+    pub(crate) last: Option<u32>,
+}

@@ -1,0 +1,196 @@
+//! The guards and leaves of an instant, by a walk over the nodes of its roots.
+ghost use Rattle.std.specs.Prelude.{◌≡◌, ◌<◌, ◌++◌, ◌∷◌, [], All, IfOk, length, None};
+ghost use Rattle.agent_core.specs.Names.{IsClosure};
+ghost use Rattle.agent_core.specs.Scope.{TokenFits, AskFits};
+ghost use Rattle.agent_laws.specs.Laws.{AreClosures};
+ghost use Rattle.instant_net.specs.declared.parts.NetGuard.{NetGuard as GuardValue};
+ghost use Rattle.instant_net.specs.Programs.{root_leaves};
+ghost use Rattle.instant_net.specs.Walks.{IsNamed, IsPlaceOf, IsAtomOf, AreAtomsOf, IsBegun, IsEnded, Grown, Adds};
+
+use crate::numbers::number_of;
+use crate::parts::{Atom, Atoms, LeafKind, NetCell, NetGuard, NetLeaf};
+use agent_core::{Closure, Constraint, Node, Program, name_of};
+use std::alloc::{AllocError, Global};
+use token_system::{Births, CellName, Memory, Token};
+
+/// Guards and leaves, so far.
+#[derive(Debug, Drop)]
+pub(crate) struct Parts {
+    pub(crate) guards: Vec<NetGuard>,
+    pub(crate) leaves: Vec<NetLeaf>,
+}
+
+impl Parts {
+    /// Adds a guard, whose leaves are not there yet, and gives its number.
+    fn begin_guard(&mut self, strict: bool, ask: Atoms, above: Option<u32>) -> Result<u32, Memory>
+        ensures number { IfOk result (λ k. k ≡ length self.old.guards.items) }
+        ensures guards { IfOk result (λ k. (g : GuardValue) × (self.new.guards.items ≡ self.old.guards.items ++ g ∷ []) × IsBegun strict ask above (length self.old.leaves.items) g) }
+        ensures leaves { IfOk result (λ k. self.new.leaves.items ≡ self.old.leaves.items) }
+    {
+        let guard = number_of(self.guards.len())?;
+        let first = number_of(self.leaves.len())?;
+        self.guards.push(NetGuard {
+            strict,
+            ask,
+            above,
+            first,
+            past: first,
+        })?;
+        Ok(guard)
+    }
+
+    /// The leaves below the guard are those from its first one on.
+    fn end_guard(&mut self, guard: u32) -> Result<(), Memory>
+        requires { guard < length self.old.guards.items }
+        ensures guards { IfOk result (λ _. IsEnded self.old.guards.items self.new.guards.items guard (length self.old.leaves.items)) }
+        ensures leaves { IfOk result (λ _. self.new.leaves.items ≡ self.old.leaves.items) }
+    {
+        let past = number_of(self.leaves.len())?;
+        let ended = &mut self.guards[guard as usize];
+        ended.past = past;
+        Ok(())
+    }
+
+    /// Adds a leaf.
+    fn add_leaf(&mut self, kind: LeafKind, last: Option<u32>) -> Result<(), Memory>
+        ensures guards { IfOk result (λ _. self.new.guards.items ≡ self.old.guards.items) }
+        ensures leaves { IfOk result (λ _. self.new.leaves.items ≡ self.old.leaves.items ++ (record { kind = kind; last = last }) ∷ []) }
+    {
+        self.leaves.push(NetLeaf { kind, last })?;
+        Ok(())
+    }
+}
+
+/// The place of the cell that has the name.
+fn place_of(cells: &[NetCell], name: &CellName) -> Result<u32, Memory>
+    ensures { IfOk result (λ place. IsPlaceOf cells.now name.now place) }
+{
+    match cells.binary_search_by(|cell| cell.name.cmp(name)) {
+        Ok(place) => number_of(place),
+        Err(_) => Err(AllocError),
+    }
+}
+
+/// What a walk goes by: the program, the cells of the net, and the instant.
+#[derive(Clone, Copy)]
+struct Walk<'a> {
+    alloc: Global,
+    program: &'a Program,
+    cells: &'a [NetCell],
+    t: u32,
+}
+
+impl Walk<'_> {
+    /// The token of a cell under the births, by the cell's place.
+    fn atom(&self, births: &[u32], cell: u32, token: Token) -> Result<Atom, Memory>
+        requires cells { All (IsNamed self.now.program.now) self.now.cells.now }
+        requires fits { TokenFits self.now.program.now births.now (record { 0 = cell; 1 = token }) }
+        ensures { IfOk result (IsAtomOf self.now.program.now self.now.cells.now births.now (record { 0 = cell; 1 = token })) }
+    {
+        let name = name_of(self.alloc, self.program, births, cell)?;
+        let place = place_of(self.cells, &name)?;
+        Ok(Atom { cell: place, token })
+    }
+
+    /// The tokens of the constraint under the births.
+    fn atoms(&self, births: &[u32], ask: &Constraint) -> Result<Atoms, Memory>
+        requires cells { All (IsNamed self.now.program.now) self.now.cells.now }
+        requires fits { AskFits self.now.program.now births.now ask.now }
+        ensures { IfOk result (AreAtomsOf self.now.program.now self.now.cells.now births.now ask.now) }
+    {
+        let mut list = Vec::new(self.alloc);
+        for (cell, token) in ask.list() {
+            let atom = self.atom(births, *cell, *token)?;
+            list.push(atom)?;
+        }
+        Ok(Atoms::make(list))
+    }
+
+    /// The closure of the node under these births.
+    fn closure(&self, node: u32, births: &[u32]) -> Result<Closure, Memory>
+        ensures { IfOk result (λ c. (c.node ≡ node) × (c.births ≡ births.now)) }
+    {
+        Ok(Closure {
+            node,
+            births: Births::make(births.to_vec(self.alloc)?),
+        })
+    }
+
+    /// Adds the guards and leaves of the node, which stands below the guard `last`.
+    fn add_node(
+        &self,
+        node: u32,
+        births: &[u32],
+        last: Option<u32>,
+        parts: &mut Parts,
+    ) -> Result<(), Memory>
+        requires cells { All (IsNamed self.now.program.now) self.now.cells.now }
+        requires closure { IsClosure self.now.program.now node births.now }
+        ensures { IfOk result (λ _. Adds self.now.program.now self.now.cells.now self.now.t node births.now last parts.old.guards.items parts.new.guards.items parts.old.leaves.items parts.new.leaves.items) }
+    {
+        match &self.program.nodes()[node as usize] {
+            Node::Skip => parts.add_leaf(LeafKind::Idle, last),
+            Node::Tell(told) => {
+                let told = self.atoms(births, told)?;
+                parts.add_leaf(LeafKind::Tells(told), last)
+            }
+            Node::Hence { body } => {
+                let always = self.closure(*body, births)?;
+                parts.add_leaf(LeafKind::StartsHence(always), last)
+            }
+            Node::Next { body } => {
+                let once = self.closure(*body, births)?;
+                parts.add_leaf(LeafKind::StartsNext(once), last)
+            }
+            Node::Then { ask, body } => {
+                let ask = self.atoms(births, ask)?;
+                let guard = parts.begin_guard(false, ask, last)?;
+                self.add_node(*body, births, Some(guard), parts)?;
+                parts.end_guard(guard)
+            }
+            Node::Else { ask, body } => {
+                let ask = self.atoms(births, ask)?;
+                let guard = parts.begin_guard(true, ask, last)?;
+                self.add_node(*body, births, Some(guard), parts)?;
+                parts.end_guard(guard)
+            }
+            Node::Par { left, right } => {
+                self.add_node(*left, births, last, parts)?;
+                self.add_node(*right, births, last, parts)
+            }
+            Node::New { body, .. } => {
+                let mut inner = births.to_vec(self.alloc)?;
+                inner.push(self.t)?;
+                self.add_node(*body, &inner, last, parts)
+            }
+        }
+    }
+}
+
+/// The guards and leaves of the roots, where these are the cells.
+pub(crate) fn net_parts(
+    alloc: Global,
+    program: &Program,
+    roots: &[Closure],
+    t: u32,
+    cells: &[NetCell],
+) -> Result<Parts, Memory>
+    requires cells { All (IsNamed program.now) cells.now }
+    requires closures { AreClosures program.now roots.now }
+    ensures { IfOk result (λ parts. Grown cells.now None [] 0 0 parts.guards.items parts.leaves.items (root_leaves program.now roots.now t)) }
+{
+    let walk = Walk {
+        alloc,
+        program,
+        cells,
+        t,
+    };
+    let mut parts = Parts {
+        guards: Vec::new(alloc),
+        leaves: Vec::new(alloc),
+    };
+    for root in roots {
+        walk.add_node(root.node, root.births.list(), None, &mut parts)?;
+    }
+    Ok(parts)
+}

@@ -1,0 +1,117 @@
+//! What words say: the values of cells, the guards that they entail, and the leaves that they run.
+ghost use Rattle.std.specs.Prelude.{◌≡◌, ◌<◌, [], ◌∷◌, length, slice_get};
+ghost use Rattle.token_system.specs.Values.{IsValueOf};
+ghost use Rattle.token_system.specs.Stores.{value_at};
+ghost use Rattle.instant_net.specs.declared.parts.NetCell.{NetCell};
+ghost use Rattle.instant_net.specs.declared.parts.NetLeaf.{NetLeaf};
+ghost use Rattle.instant_net.specs.NamedLeaves as named_leaves;
+ghost use Rattle.instant_net.specs.Nets.{named, named_leaf, AtomFits};
+ghost use Rattle.instant_net.specs.Readers.{ask_of, is_else_of};
+ghost use Rattle.instant_net.specs.Words.{number_value, signal_value, store_in, value_in, AreWords};
+
+use crate::net::Net;
+use crate::parts::Atom;
+use crate::words::Words;
+use token_system::{Kind, Value, entails};
+
+/// What is taken off the content of a number's word, for its bound.
+const OFFSET: i64 = 2_147_483_648;
+
+/// The value of the cell.
+pub fn value(net: &Net, words: &Words, cell: u32) -> Value
+    requires cell { cell < length net.now.cells }
+    requires words { AreWords net.now.cells words.now }
+    ensures value { (c : NetCell) → slice_get net.now.cells cell ≡ Some c → result ≡ value_in words.now c }
+    ensures of_cell { (c : NetCell) → slice_get net.now.cells cell ≡ Some c → IsValueOf c.cell result }
+    ensures in_store { (c : NetCell) → slice_get net.now.cells cell ≡ Some c → result ≡ value_at (store_in net.now.cells words.now) c.name c.cell }
+{
+    let first = net.first(cell);
+    match net.cell(cell).kind {
+        Kind::Signal => signal(words.at(first)),
+        Kind::Number => number(words.at(first), words.at(first + 1)),
+    }
+}
+
+// The value of a signal with this word.
+fn signal(word: u64) -> Value
+    ensures { result ≡ signal_value word }
+{
+    match word % 4 {
+        0 => Value::Signal {
+            on: false,
+            off: false,
+        },
+        1 => Value::Signal {
+            on: true,
+            off: false,
+        },
+        2 => Value::Signal {
+            on: false,
+            off: true,
+        },
+        _ => Value::Clash,
+    }
+}
+
+// The value of a number with these words.
+fn number(lo: u64, hi: u64) -> Value
+    requires { hi < 4294967296 }
+    ensures { result ≡ number_value lo hi }
+{
+    if hi < lo {
+        return Value::Clash;
+    }
+    Value::Number {
+        lo: lo as i64 - OFFSET,
+        hi: hi as i64 - OFFSET,
+    }
+}
+
+/// Whether the words entail each token that the guard asks for.
+pub fn holds(net: &Net, words: &Words, guard: u32) -> bool
+    requires guard { guard < length net.now.guards }
+    requires words { AreWords net.now.cells words.now }
+    ensures { result ≡ named_leaves.entails (store_in net.now.cells words.now) (named net.now.cells (ask_of (slice_get net.now.guards guard))) }
+{
+    for atom in net.ask(guard) {
+        if !has(net, words, *atom) {
+            return false;
+        }
+    }
+    true
+}
+
+// Whether the words entail the token.
+fn has(net: &Net, words: &Words, atom: Atom) -> bool
+    requires fits { AtomFits net.now.cells atom }
+    requires words { AreWords net.now.cells words.now }
+    ensures { result ≡ named_leaves.entails (store_in net.now.cells words.now) (named net.now.cells (atom ∷ [])) }
+{
+    entails(value(net, words, atom.cell), atom.token)
+}
+
+// Whether the words allow the guard: they entail its ask where it is a then's, and do not where it is an else's.
+fn allows(net: &Net, words: &Words, guard: u32) -> bool
+    requires guard { guard < length net.now.guards }
+    requires words { AreWords net.now.cells words.now }
+    ensures { result ≡ named_leaves.allowed (is_else_of (slice_get net.now.guards guard)) (named_leaves.entails (store_in net.now.cells words.now) (named net.now.cells (ask_of (slice_get net.now.guards guard)))) }
+{
+    let held = holds(net, words, guard);
+    if net.is_else(guard) { !held } else { held }
+}
+
+/// Whether the words run the leaf: they entail each ask above it that is a then's, and none that is an else's.
+pub fn runs(net: &Net, words: &Words, leaf: u32) -> bool
+    requires leaf { leaf < length net.now.leaves }
+    requires words { AreWords net.now.cells words.now }
+    ensures { (l : NetLeaf) → slice_get net.now.leaves leaf ≡ Some l → result ≡ named_leaves.runs (store_in net.now.cells words.now) (named_leaf net.now l) }
+{
+    let mut next = net.last_guard(leaf);
+    while let Some(guard) = next {
+        if !allows(net, words, guard) {
+            return false;
+        }
+        next = net.above(guard);
+    }
+    true
+}

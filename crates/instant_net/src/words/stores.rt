@@ -1,0 +1,93 @@
+//! Words of stores, and stores of words.
+ghost use Rattle.std.specs.Prelude.{◌≡◌, ◌++◌, IfOk, OnErr, OnOk};
+ghost use Rattle.std.specs.FinMap as map;
+ghost use Rattle.token_system.specs.Stores.{stored, value_at};
+ghost use Rattle.token_system.specs.Values.{IsValueOf};
+ghost use Rattle.instant_net.specs.Outputs.{IsStoreOf};
+ghost use Rattle.instant_net.specs.Words.{kind_words, store_in, store_words, AreWords};
+
+use crate::net::{Net, shifted};
+use crate::words::{Words, value};
+use std::alloc::Global;
+use token_system::{Cell, CellName, Kind, Memory, Store, Token, Value, bottom};
+
+/// What the lower bound of a number is where it clashes: above each upper bound.
+const CLASH: u64 = 4_294_967_296;
+
+/// The words of which the input is told, and nothing else.
+pub fn open_words(alloc: Global, net: &Net, input: &Store) -> Result<Words, Memory>
+    requires { IsStoreOf net.now.cells input.now }
+    ensures told { IfOk result (λ words. words ≡ store_words net.now.cells input.now) }
+    ensures words { IfOk result (AreWords net.now.cells) }
+    ensures store { IfOk result (λ words. store_in net.now.cells words ≡ input.now) }
+{
+    let mut list = Vec::new(alloc);
+    for place in 0..net.cells() {
+        let cell = net.cell(place);
+        let value = value_of(input, net.cell_name(place), cell);
+        push(&mut list, cell, value)?;
+    }
+    Ok(Words { list })
+}
+
+// The value that the store has for the named cell.
+fn value_of(store: &Store, name: &CellName, cell: Cell) -> Value
+    ensures { result ≡ value_at store.now name.now cell }
+{
+    match store.get(name) {
+        Some(value) => value,
+        None => bottom(cell),
+    }
+}
+
+// Appends the words of a cell's value.
+fn push(list: &mut Vec<u64>, cell: Cell, value: Value) -> Result<(), Memory>
+    requires { IsValueOf cell value }
+    ensures { OnOk result (list.new.items ≡ list.old.items ++ kind_words cell.kind cell.hi value) }
+{
+    match value {
+        Value::Signal { on, off } => Ok(list.push(u64::from(on) + 2 * u64::from(off))?),
+        Value::Number { lo, hi } => {
+            list.push(shifted(lo))?;
+            Ok(list.push(shifted(hi))?)
+        }
+        Value::Clash => match cell.kind {
+            Kind::Signal => Ok(list.push(3)?),
+            Kind::Number => {
+                list.push(CLASH)?;
+                Ok(list.push(shifted(cell.hi))?)
+            }
+        },
+    }
+}
+
+/// The store that the words are.
+pub fn words_store(alloc: Global, net: &Net, words: &Words) -> Result<Store, Memory>
+    requires { AreWords net.now.cells words.now }
+    ensures { IfOk result (λ store. store ≡ store_in net.now.cells words.now) }
+{
+    let mut store = Store::new(alloc);
+    for place in 0..net.cells() {
+        let name = net.cell_name(place).copy()?;
+        keep(&mut store, name, net.cell(place), value(net, words, place))?;
+    }
+    Ok(store)
+}
+
+// Tells the tokens that make this the value of a cell of which the store keeps nothing.
+fn keep(store: &mut Store, name: CellName, cell: Cell, value: Value) -> Result<(), Memory>
+    requires absent { map.get store.old name ≡ None }
+    requires value { IsValueOf cell value }
+    ensures { OnOk result (store.new ≡ stored store.old name cell value) }
+{
+    match value {
+        Value::Signal { on: true, .. } => store.tell(name, cell, Token::On),
+        Value::Signal { off: true, .. } => store.tell(name, cell, Token::Off),
+        Value::Signal { .. } => Ok(()),
+        Value::Number { lo, hi } => {
+            store.tell(name.copy()?, cell, Token::AtLeast(lo))?;
+            store.tell(name, cell, Token::AtMost(hi))
+        }
+        Value::Clash => store.tell(name, cell, Token::Clash),
+    }
+}
