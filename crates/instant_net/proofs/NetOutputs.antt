@@ -132,22 +132,22 @@ name-in (c ∷ cells) n (zero, lt, e) = (c, (0, omega arith, refl), e)
 name-in (c ∷ cells) n (suc k, lt, e) = let r = name-in cells n (k, omega arith, e) in (r.0, (suc r.1.0, omega (arith, r.1.1), r.1.2), r.2)
 
 module _ (p : CoreProgram) (table : List ℕ) (rs : List Closure) (t : ℕ) (net : Flat) (of : IsNetOf p table rs t net) where
-  cell-of : (c : NetCell) → Contains net.cells c → IsCellOf p table c
+  pub cell-of : (c : NetCell) → Contains net.cells c → IsCellOf p table c
   cell-of c h = All-contains (IsCellOf p table) net.cells c of.cells.cells h
 
   -- a cell of this name has the cell that is declared for it
-  cell-same : (c : NetCell) (n : CellName) (d : CellDecl) → Contains net.cells c → c.name ≡ n → Names p n d → c.cell ≡ d.cell
+  pub cell-same : (c : NetCell) (n : CellName) (d : CellDecl) → Contains net.cells c → c.name ≡ n → Names p n d → c.cell ≡ d.cell
   cell-same c n d h e named =
       let one = cell-of c h in
       one.cell ∙ ap (λ (x : CellDecl). x.cell) (Names-one p n one.decl d (subst (λ (q : CellName). Names p q one.decl) e one.named) named)
 
-  store-up : (s : Valuation) → IsStoreOf net.cells s → IsStore p s
+  pub store-up : (s : Valuation) → IsStoreOf net.cells s → IsStore p s
   store-up s h n x e =
       let r = h n x e in
       let one = cell-of r.0 r.1 in
       (one.decl, subst (λ (q : CellName). Names p q one.decl) r.2 one.named, subst (λ (c : Cell). IsKeptFor c x) one.cell r.3)
 
-  below-up : (u v : Valuation) → IsStoreOf net.cells u → IsStore p v → Below net.cells u v → core.Below p u v
+  pub below-up : (u v : Valuation) → IsStoreOf net.cells u → IsStore p v → Below net.cells u v → core.Below p u v
   below-up u v iu iv h n d x named fits up = go (get u n) refl
     where
       go : (o : Option Value) → get u n ≡ o → IsTrue (store_entails v n d.cell x)
@@ -160,7 +160,7 @@ module _ (p : CoreProgram) (table : List ℕ) (rs : List Closure) (t : ℕ) (net
           (h r.0 x r.1 (subst (λ (c : Cell). Fits c x) (sym same) fits)
           (subst (λ (q : CellName). IsTrue (store_entails u q r.0.cell x)) (sym r.2) (subst (λ (c : Cell). IsTrue (store_entails u n c x)) (sym same) up))))
 
-  below-down : (u v : Valuation) → core.Below p u v → Below net.cells u v
+  pub below-down : (u v : Valuation) → core.Below p u v → Below net.cells u v
   below-down u v h c x at fits up =
       let one = cell-of c at in
       subst (λ (y : Cell). IsTrue (store_entails v c.name y x)) (sym one.cell)

@@ -92,7 +92,8 @@ impl Net {
 
     /// How many strata there are.
     pub fn strata(&self) -> u32
-        ensures { result ≡ self.now.strata }
+        ensures count { result ≡ self.now.strata }
+        ensures net { IsNet self.now }
     {
         self.strata
     }

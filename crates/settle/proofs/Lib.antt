@@ -1,0 +1,4 @@
+pub mod NetTells
+pub mod NetSystem
+pub mod Settling
+pub mod LeafPasses

@@ -1,0 +1,62 @@
+//! Passes over the leaves of a net, and strata.
+ghost use Rattle.std.specs.Prelude.{◌≡◌, ◌+◌, ◌≤◌, false, cond, All};
+ghost use Rattle.token_system.specs.Stores.{Valuation};
+ghost use Rattle.instant_net.specs.Opened.{IsNet};
+ghost use Rattle.instant_net.specs.Outputs.{IsOutput, IsStratified};
+ghost use Rattle.instant_net.specs.Words.{store_in, AreWords};
+ghost use Rattle.settle.specs.Ways.{untold, Advances, IsOnWay};
+ghost use Rattle.settle.specs.Ways as ways;
+
+use crate::leaves::is_due;
+use instant_net::{Net, Words, tell};
+
+/// Completes the stratum: from words on the way to the output of a stratified net that have all of the strata below this
+/// one, to words on that way that have this stratum too. The same words serve each input and output that they lie
+/// between.
+pub fn settle_stratum(net: &Net, words: &mut Words, stratum: u32)
+    requires words { AreWords net.now.cells words.old }
+    ensures words { AreWords net.now.cells words.new }
+    ensures settled { (input output : Valuation) → IsStratified net.now → IsOutput net.now input output
+        → IsOnWay net.now input output stratum (store_in net.now.cells words.old)
+        → IsOnWay net.now input output (stratum + 1) (store_in net.now.cells words.new) }
+{
+    let mut told = true;
+    while told {
+        told = tell_due(net, words, stratum);
+    }
+}
+
+/// Completes the instant: from words that lie between the input and the output of a stratified net, and have all that the
+/// output has of the strata below `from`, to the words of the output.
+pub fn settle(net: &Net, words: &mut Words, from: u32)
+    requires words { AreWords net.now.cells words.old }
+    ensures words { AreWords net.now.cells words.new }
+    ensures settled { (input output : Valuation) → IsStratified net.now → IsOutput net.now input output
+        → IsOnWay net.now input output from (store_in net.now.cells words.old)
+        → store_in net.now.cells words.new ≡ output }
+{
+    for stratum in from..net.strata() {
+        settle_stratum(net, words, stratum);
+    }
+}
+
+// Tells, one after the other, each leaf that is due when its turn comes, and says whether there was one. Where there was,
+// fewer leaves tell something that the words do not entail.
+fn tell_due(net: &Net, words: &mut Words, stratum: u32) -> bool
+    requires words { AreWords net.now.cells words.old }
+    ensures words { AreWords net.now.cells words.new }
+    ensures net { IsNet net.now }
+    ensures way { Advances net.now stratum stratum words.old words.new }
+    ensures fewer { untold net.now (store_in net.now.cells words.new) net.now.leaves + cond result 1 0
+        ≤ untold net.now (store_in net.now.cells words.old) net.now.leaves }
+    ensures calm { result ≡ false → All (λ l. ways.is_due net.now stratum (store_in net.now.cells words.new) l ≡ false) net.now.leaves }
+{
+    let mut told = false;
+    for leaf in 0..net.leaves() {
+        if is_due(net, words, leaf, stratum) {
+            tell(net, words, leaf);
+            told = true;
+        }
+    }
+    told
+}
