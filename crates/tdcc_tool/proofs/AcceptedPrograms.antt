@@ -1,4 +1,4 @@
--- What holds of the texts that run: each is one program.
+-- What holds of the texts whose program is built: each is one program.
 use Rattle.std.proofs.Common.{◌≡◌, ℕ, ◌<◌, ◌≤◌, List, length, inl, inr, sym, ap, ◌∙◌, subst, arith}
 use Rattle.std.specs.Prelude.{◌⊎◌}
 use Rattle.std.proofs.lemmas.List.{length-map}
@@ -12,28 +12,28 @@ use Rattle.derived_forms.specs.ProgramTexts.{IsProgramText}
 use Rattle.derived_forms.specs.Forms.{form_of}
 use Rattle.derived_forms.proofs.NodeForms.{forms_listed}
 use Rattle.derived_forms.proofs.Surfaces.{expansion_program, one_core}
-use Rattle.tdcc_tool.specs.Accepted.{Accepts, IsFirstForm}
+use Rattle.tdcc_tool.specs.Accepted.{IsBuilt, IsBuiltForm, Accepts}
 
--- a text that runs is not too long
-pub accepted_short : (text : List ℕ) (p : CoreProgram) → Accepts text p → length text ≤ 65536
-accepted_short text p a = let (s, reads, expansion) = a.reads in let (phrase, accepts, surface) = reads in accepts.has.lexed.within
+-- such a text is not too long
+pub built_short : (text : List ℕ) (p : CoreProgram) → IsBuilt text p → length text ≤ 65536
+built_short text p a = let (s, reads, expansion) = a.reads in let (phrase, accepts, surface) = reads in accepts.has.lexed.within
 
-pub accepted_program : (text : List ℕ) (p : CoreProgram) → Accepts text p → IsProgram p
-accepted_program text p a = let (s, reads, expansion) = a.reads in expansion_program s p (text, reads) expansion a.few_nodes a.few_cells
+pub built_program : (text : List ℕ) (p : CoreProgram) → IsBuilt text p → IsProgram p
+built_program text p a = let (s, reads, expansion) = a.reads in expansion_program s p (text, reads) expansion a.few_nodes a.few_cells
 
-pub one_accepted : (text : List ℕ) (p q : CoreProgram) → Accepts text p → Accepts text q → p ≡ q
-one_accepted text p q a b = one_core text p q a.reads b.reads
+pub one_built : (text : List ℕ) (p q : CoreProgram) → IsBuilt text p → IsBuilt text q → p ≡ q
+one_built text p q a b = one_core text p q a.reads b.reads
 
--- a text without a surface does not run
-pub none_read : (text : List ℕ) → ((s : SurfaceProgram) → ReadsAs text s → ⊥) → (q : CoreProgram) → Accepts text q → ⊥
+-- a text without a surface is none
+pub none_read : (text : List ℕ) → ((s : SurfaceProgram) → ReadsAs text s → ⊥) → (q : CoreProgram) → IsBuilt text q → ⊥
 none_read text none q a = let (s, reads, expansion) = a.reads in none s reads
 
 -- a program has as many nodes as its surface has forms
 same_count : (s : SurfaceProgram) (p : CoreProgram) → IsExpansion s p → length s.forms ≡ length p.nodes
 same_count s p e = ap length (e.written ∙ sym (forms_listed 0 e.agent)) ∙ length-map (listing 0 e.agent) form_of ∙ ap length (sym e.nodes)
 
--- nor does one whose surface is too large
-pub none_small : (text : List ℕ) (s : SurfaceProgram) → ReadsAs text s → ((p : CoreProgram) × IsExpansion s p) → (4096 < length s.forms) ⊎ (1024 < length s.cells) → (q : CoreProgram) → Accepts text q → ⊥
+-- nor is one whose surface is too large
+pub none_small : (text : List ℕ) (s : SurfaceProgram) → ReadsAs text s → ((p : CoreProgram) × IsExpansion s p) → (4096 < length s.forms) ⊎ (1024 < length s.cells) → (q : CoreProgram) → IsBuilt text q → ⊥
 none_small text s reads (p, expansion) large q a = go large
   where
     same : p ≡ q
@@ -49,6 +49,13 @@ none_small text s reads (p, expansion) large q a = go large
     go (inl many) = let e = nodes in let few = a.few_nodes in omega arith
     go (inr many) = let e = cells in let few = a.few_cells in omega arith
 
--- nor one whose program is not of the form that runs
-pub none_formed : (text : List ℕ) (p : CoreProgram) → IsProgramText text p → (IsFirstForm p → ⊥) → (q : CoreProgram) → Accepts text q → ⊥
-none_formed text p reads other q a = other (subst IsFirstForm (sym (one_core text p q reads a.reads)) a.form)
+-- nor one whose program is not of the form that is built
+pub none_formed : (text : List ℕ) (p : CoreProgram) → IsProgramText text p → (IsBuiltForm p → ⊥) → (q : CoreProgram) → IsBuilt text q → ⊥
+none_formed text p reads other q a = other (subst IsBuiltForm (sym (one_core text p q reads a.reads)) a.form)
+
+-- so are the texts that run
+pub accepted_program : (text : List ℕ) (p : CoreProgram) → Accepts text p → IsProgram p
+accepted_program text p a = built_program text p a.built
+
+pub one_accepted : (text : List ℕ) (p q : CoreProgram) → Accepts text p → Accepts text q → p ≡ q
+one_accepted text p q a b = one_built text p q a.built b.built

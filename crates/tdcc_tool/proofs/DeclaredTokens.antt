@@ -16,7 +16,7 @@ use Rattle.agent_core.proofs.OneStore.{value_at-fits}
 use Rattle.agent_core.specs.Scope.{TokenFits, AskFits}
 use Rattle.agent_core.specs.Tellings.{tell_all}
 use Rattle.agent_core.proofs.Tellings.{tells_one}
-use Rattle.tdcc_tool.specs.Walks.{told_one}
+use Rattle.tdcc_tool.specs.Tellings.{told_one}
 
 -- without births a cell in scope is a declared one
 no_local : (p : CoreProgram) (cell : ℕ) (d : CellDecl) → (b : Bool) → nat_lt cell p.declared ≡ b → Names p (cond b (Declared cell) (local_name p.nodes [] (new_of p.nodes cell))) d → b ≡ true

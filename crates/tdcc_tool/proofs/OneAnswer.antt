@@ -1,5 +1,5 @@
 -- Two answers to the same words and bytes are one.
-use Rattle.std.proofs.Common.{◌≡◌, ℕ, zero, suc, ◌<◌, ◌≤◌, List, [], ◌∷◌, length, take, Some, refl, sym, ap, ◌∙◌, subst, arith, inl, inr}
+use Rattle.std.proofs.Common.{◌≡◌, ℕ, zero, suc, ◌<◌, ◌≤◌, List, [], ◌∷◌, ◌++◌, length, take, Some, refl, sym, ap, ◌∙◌, subst, arith, inl, inr}
 use Rattle.std.specs.Prelude.{slice_get, String}
 use Rattle.std.specs.declared.alloc.Global.{Global}
 use Rattle.tdcc_base.specs.declared.status.Status.{Status}
@@ -7,19 +7,21 @@ use Rattle.tdcc_base.specs.declared.status.Status.TheVariants as statuses
 use Rattle.tdcc_base.specs.Texts.{text_of, trace_of}
 use Rattle.tdcc_base.specs.Lines.{lines_of}
 use Rattle.token_system.specs.Stores.{Valuation}
-use Rattle.agent_core.specs.Agents.{agent_at}
 use Rattle.agent_core.specs.Programs.{CoreProgram}
 use Rattle.agent_core.specs.Facts.{IsProgram}
 use Rattle.agent_core.specs.Outputs.{IsRun}
-use Rattle.tdcc_tool.specs.Plain.{IsPlain}
+use Rattle.agent_core.specs.Strata.{Edge, Each, Stratifies, IsFirstCase, edges, Reaches}
+use Rattle.agent_laws.proofs.ProgramOutputs.{has_output, one_output}
+use Rattle.agent_laws.proofs.Runs.{one_run}
 use Rattle.tdcc_tool.specs.Inputs.{GivesInput}
-use Rattle.tdcc_tool.specs.Answers.{GiveInputs, Stops, Ends, RunAnswer, AnswersRun, HaveOneAnswer, store_lines}
+use Rattle.tdcc_tool.specs.Accepted.{Accepts}
+use Rattle.tdcc_tool.specs.Messages.{strata_line}
+use Rattle.tdcc_tool.specs.Readings.{IsRefusedCase}
+use Rattle.tdcc_tool.specs.Answers.{GiveInputs, Stops, Ends, RunAnswer, Refuses, AnswersRun, HaveOneAnswer, store_lines}
 use Rattle.tdcc_tool.proofs.NamedTokens.{gives-one}
-use Rattle.tdcc_tool.proofs.AcceptedPrograms.{accepted_program, one_accepted}
+use Rattle.tdcc_tool.proofs.AcceptedPrograms.{accepted_program, one_built, one_accepted}
 use Rattle.tdcc_tool.specs.Laws.{AcceptedHaveOneOutput, LaterOutputsAreInputs}
-use Rattle.tdcc_tool.proofs.PlainOutputs.{later_output}
-use Rattle.tdcc_tool.proofs.Later.{plain_momentary}
-use Rattle.tdcc_tool.proofs.OneRun.{plain_one, plain_one_run, plain_has_output}
+use Rattle.tdcc_tool.proofs.LaterOutputs.{later_output}
 
 module _ (p : CoreProgram) where
   -- a line at a place below the number of inputs was read
@@ -97,7 +99,7 @@ module _ (p : CoreProgram) where
   below_or_same (suc m) zero f g = absurd (g (let h : 0 < suc m = omega arith in h))
   below_or_same (suc m) (suc n) f g = ap suc (below_or_same m n (λ h. f (omega arith)) (λ h. g (omega arith)))
 
-  module _ (is : IsProgram p) (plain : IsPlain (agent_at p.nodes 0)) where
+  module _ (is : IsProgram p) (table : List ℕ) (strat : Stratifies p table) where
     same_ins : (lines : List (List ℕ)) (a b : List Valuation) → GiveInputs p (take (length a) lines) a → GiveInputs p (take (length b) lines) b → length a ≡ length b → a ≡ b
     same_ins lines [] [] x y e = refl
     same_ins lines [] (j ∷ b) x y e = absurd (omega arith)
@@ -110,18 +112,53 @@ module _ (p : CoreProgram) where
     one_run_answer lines s s' o o' e e' a b =
         let count : length a.ins ≡ length b.ins = below_or_same (length a.ins) (length b.ins) (not_fewer lines s s' o o' e e' a b) (not_fewer lines s' s o' o e' e b a) in
         let ins : a.ins ≡ b.ins = same_ins lines a.ins b.ins a.given b.given count in
-        let outs : a.outs ≡ b.outs = plain_one_run p is plain b.ins a.outs b.outs (subst (λ (xs : List Valuation). IsRun p xs a.outs) ins a.run) b.run in
+        let outs : a.outs ≡ b.outs = one_run p table is strat b.ins a.outs b.outs (subst (λ (xs : List Valuation). IsRun p xs a.outs) ins a.run) b.run in
         let end = same_end lines (length b.ins) s s' e e' (subst (λ (k : ℕ). Ends p lines k s e) count a.ends) b.ends in
         (end.0, a.written ∙ ap (λ (vs : List Valuation). store_lines p vs) outs ∙ sym b.written, end.1)
 
+-- FIRST CASES: there is at most one
+
+module _ (P : Edge → Type 0) where
+  one_first : (before before' : List Edge) (e e' : Edge) (later later' : List Edge) → before ++ e ∷ later ≡ before' ++ e' ∷ later' → P e → P e' → Each (λ x. P x → ⊥) before → Each (λ x. P x → ⊥) before' → e ≡ e'
+  one_first [] [] e e' later later' same p p' none none' = cc
+  one_first [] (b ∷ before') e e' later later' same p p' none none' = absurd (none'.0 (let h : e ≡ b = cc in subst P h p))
+  one_first (b ∷ before) [] e e' later later' same p p' none none' = absurd (none.0 (let h : e' ≡ b = cc in subst P h p'))
+  one_first (b ∷ before) (b' ∷ before') e e' later later' same p p' none none' = one_first before before' e e' later later' (let h : before ++ e ∷ later ≡ before' ++ e' ∷ later' = cc in h) p p' none.1 none'.1
+
+one_first_case : (p : CoreProgram) (e e' : Edge) → IsFirstCase p e → IsFirstCase p e' → e ≡ e'
+one_first_case p e e' a b = one_first (λ x. Reaches (edges p) x.told x.guard.cell) a.before b.before e e' a.later b.later (sym a.stands ∙ b.stands) a.bad b.bad a.none b.none
+
+-- a refused case is the first one
+one_refused_line : (p : CoreProgram) (g t n g' t' n' : ℕ) → IsRefusedCase p g t n → IsRefusedCase p g' t' n' → strata_line p g t n ≡ strata_line p g' t' n'
+one_refused_line p g t n g' t' n' a b =
+    let same = one_first_case p a.edge b.edge a.first b.first in
+    let guards : g ≡ g' = sym a.guard_is ∙ ap (λ (x : Edge). x.guard.cell) same ∙ b.guard_is in
+    let tolds : t ≡ t' = sym a.told_is ∙ ap (λ (x : Edge). x.told) same ∙ b.told_is in
+    let nodes : n ≡ n' = sym a.node_is ∙ ap (λ (x : Edge). x.guard.node) same ∙ b.node_is in
+    ap (λ (k : ℕ). strata_line p k t n) guards ∙ ap (λ (k : ℕ). strata_line p g' k n) tolds ∙ ap (λ (k : ℕ). strata_line p g' t' k) nodes
+
+-- a text is refused by one line
+one_refusal : (text : List ℕ) (e e' : List ℕ) → Refuses text e → Refuses text e' → e ≡ e'
+one_refusal text e e' (inl x) (inl y) = x.1 ∙ sym y.1
+one_refusal text e e' (inl x) (inr y) = absurd (x.0 y.0 y.1)
+one_refusal text e e' (inr x) (inl y) = absurd (y.0 x.0 x.1)
+one_refusal text e e' (inr (p, built, g, t, n, case, line)) (inr (q, built', g', t', n', case', line')) =
+    let same : q ≡ p = one_built text q p built' built in
+    line ∙ one_refused_line p g t n g' t' n' case (subst (λ (x : CoreProgram). IsRefusedCase x g' t' n') same case') ∙ ap (λ (x : CoreProgram). strata_line x g' t' n') (sym same) ∙ sym line'
+
+-- and then it does not run
+pub refused_runs_not : (text : List ℕ) (e : List ℕ) (p : CoreProgram) → Refuses text e → Accepts text p → ⊥
+refused_runs_not text e p (inl x) a = x.0 p a.built
+refused_runs_not text e p (inr (q, built, g, t, n, case, line)) a = case.none a.table (subst (λ (x : CoreProgram). Stratifies x a.table) (one_built text p q a.built built) a.stratified)
+
 -- the answer of `run` is one
 pub one_answer_run : (bytes : List ℕ) (s s' : Status) (o o' e e' : List ℕ) → AnswersRun bytes s o e → AnswersRun bytes s' o' e' → (s ≡ s') × (o ≡ o') × (e ≡ e')
-one_answer_run bytes s s' o o' e e' (inl x) (inl y) = (x.is ∙ sym y.is, x.nothing ∙ sym y.nothing, x.told ∙ sym y.told)
-one_answer_run bytes s s' o o' e e' (inl x) (inr y) = absurd (x.none y.0 y.1)
-one_answer_run bytes s s' o o' e e' (inr x) (inl y) = absurd (y.none x.0 x.1)
+one_answer_run bytes s s' o o' e e' (inl x) (inl y) = (x.is ∙ sym y.is, x.nothing ∙ sym y.nothing, one_refusal (text_of bytes) e e' x.why y.why)
+one_answer_run bytes s s' o o' e e' (inl x) (inr y) = absurd (refused_runs_not (text_of bytes) e y.0 x.why y.1)
+one_answer_run bytes s s' o o' e e' (inr x) (inl y) = absurd (refused_runs_not (text_of bytes) e' x.0 y.why x.1)
 one_answer_run bytes s s' o o' e e' (inr x) (inr y) =
     let same : y.0 ≡ x.0 = one_accepted (text_of bytes) y.0 x.0 y.1 x.1 in
-    one_run_answer x.0 (accepted_program (text_of bytes) x.0 x.1) x.1.form.plain (lines_of (trace_of bytes)) s s' o o' e e' x.2
+    one_run_answer x.0 (accepted_program (text_of bytes) x.0 x.1) x.1.table x.1.stratified (lines_of (trace_of bytes)) s s' o o' e e' x.2
     (subst (λ (p : CoreProgram). RunAnswer p (lines_of (trace_of bytes)) s' o' e') same y.2)
 
 -- the answer is one
@@ -135,10 +172,9 @@ one_answer words bytes s s' o o' e e' (inr x) (inr y) = (x.is ∙ sym y.is, x.no
 pub accepted_one_output : (text : List ℕ) → AcceptedHaveOneOutput text
 accepted_one_output text p a closed i store =
     let is = accepted_program text p a in
-    let pl = a.form.plain in
-    let v = plain_has_output p is pl closed i store in
-    record { output = v.0; is = v.1; only = λ w out. plain_one p is pl closed i v.0 w v.1 out }
+    let v = has_output p a.table is a.stratified closed i store in
+    record { output = v.0; is = v.1; only = λ w out. one_output p a.table is a.stratified closed i v.0 w v.1 out }
 
 -- which at later instants is the input
 pub accepted_later : (text : List ℕ) → LaterOutputsAreInputs text
-accepted_later text p a first closed i store = later_output p first closed i (plain_momentary (agent_at p.nodes 0) a.form.plain) store
+accepted_later text p a first closed i store = later_output p first closed i a.built.form.momentary store

@@ -15,14 +15,14 @@ use Rattle.tdcc_base.specs.Lines.{first_line, after_line, onto_first, lines_of, 
 use Rattle.token_system.specs.Stores.{Valuation}
 use Rattle.agent_core.specs.Programs.{CoreProgram}
 use Rattle.agent_core.specs.Outputs.{IsRun}
+use Rattle.agent_laws.proofs.Runs.{run-push}
 use Rattle.tdcc_tool.specs.Inputs.{GivesInput}
 use Rattle.tdcc_tool.specs.StoreLines.{store_line}
 use Rattle.tdcc_tool.specs.Messages.{trace_line, program_line}
 use Rattle.tdcc_tool.specs.Accepted.{Accepts}
-use Rattle.tdcc_tool.specs.Answers.{AnswersRun, GiveInputs, Stops, Ends, RunAnswer, store_lines}
+use Rattle.tdcc_tool.specs.Answers.{Refuses, AnswersRun, GiveInputs, Stops, Ends, RunAnswer, store_lines}
 use Rattle.tdcc_tool.specs.Instants.{Goes}
-use Rattle.tdcc_tool.proofs.AcceptedPrograms.{accepted_short}
-use Rattle.tdcc_tool.proofs.Later.{run_goes_on}
+use Rattle.tdcc_tool.proofs.AcceptedPrograms.{built_short}
 
 -- the run over the first n lines
 pub record Progress (p : CoreProgram) (trace : List ℕ) (left : Option (List ℕ)) (n : ℕ) (o : List ℕ) : Type 0 where
@@ -153,7 +153,7 @@ module _ (p : CoreProgram) where
         count = length-append pr.done (line ∷ []) ∙ ap (λ (k : ℕ). k + 1) pr.count;
         lines = pr.lines ∙ ap (λ ls. pr.done ++ ls) h.1.lines ∙ sym (append_assoc pr.done (line ∷ []) (lines_of h.0));
         given = given_more pr.done pr.ins line g.input pr.given h.2 g.given;
-        run = run_goes_on p pr.ins pr.outs g.input g.output pr.run (g.out pr.outs (pr.run.whole ∙ given_long pr.done pr.ins pr.given ∙ pr.count));
+        run = run-push p pr.ins pr.outs g.input g.output pr.run (g.out pr.outs (pr.run.whole ∙ given_long pr.done pr.ins pr.given ∙ pr.count));
         written = g.appended ∙ append_assoc o (store_line p g.output) (10 ∷ []) ∙ ap (λ (xs : List ℕ). xs ++ (store_line p g.output ++ 10 ∷ [])) pr.written
             ∙ sym (flat_map-append (λ v. store_line p v ++ 10 ∷ []) pr.outs (g.output ∷ []) ∙ ap (λ (ys : List ℕ). store_lines p pr.outs ++ ys) (append-nil (store_line p g.output ++ 10 ∷ [])));
       }
@@ -178,15 +178,16 @@ as_answer p (Some trace) s s' o o' e e' es eo ee h =
     subst (λ (x : Status). RunAnswer p (lines_of trace) x o e) (sym es)
     (subst (λ (x : List ℕ). RunAnswer p (lines_of trace) s' x e) (sym eo) (subst (λ (x : List ℕ). RunAnswer p (lines_of trace) s' o' x) (sym ee) h))
 
--- a text that is no program's is refused
-pub refuses : (start new : Option (List ℕ)) (text : List ℕ) (end : TextEnd) (s : Status) (o e : List ℕ) → ReadsText start new text (Ok end) → ((p : CoreProgram) → Accepts text p → ⊥) → s ≡ statuses.Program → o ≡ [] → e ≡ program_line → IfSome start (λ bytes. AnswersRun bytes s o e)
-refuses None new text end s o e r none es eo ee = tt
-refuses (Some bytes) new text end s o e r none es eo ee = inl (record { none = λ p a. none p (subst (λ (t : List ℕ). Accepts t p) (sym r.is_text) a); is = es; nothing = eo; told = ee })
+-- a text that does not run is refused
+pub refuses : (start new : Option (List ℕ)) (text : List ℕ) (end : TextEnd) (s : Status) (o e : List ℕ) → ReadsText start new text (Ok end) → Refuses text e → s ≡ statuses.Program → o ≡ [] → IfSome start (λ bytes. AnswersRun bytes s o e)
+refuses None new text end s o e r why es eo = tt
+refuses (Some bytes) new text end s o e r why es eo = inl (record { why = subst (λ (t : List ℕ). Refuses t e) r.is_text why; is = es; nothing = eo })
 
 -- a text that is too long is refused
 pub refuses_long : (start new : Option (List ℕ)) (text : List ℕ) (s : Status) (o e : List ℕ) → ReadsText start new text (Err stops.TooLong) → s ≡ statuses.Program → o ≡ [] → e ≡ program_line → IfSome start (λ bytes. AnswersRun bytes s o e)
 refuses_long None new text s o e r es eo ee = tt
-refuses_long (Some bytes) new text s o e r es eo ee = let long = r.0 in inl (record { none = λ p a. (let short = accepted_short (text_of bytes) p a in omega arith); is = es; nothing = eo; told = ee })
+refuses_long (Some bytes) new text s o e r es eo ee =
+    let long = r.0 in inl (record { why = inl (λ p a. (let short = built_short (text_of bytes) p a in omega arith), ee); is = es; nothing = eo })
 
 -- the answer to the trace of a program's text is the answer to the bytes
 pub accepts : (p : CoreProgram) (start new : Option (List ℕ)) (text : List ℕ) (end : TextEnd) (s : Status) (o e : List ℕ) → ReadsText start new text (Ok end) → Accepts text p → IfSome new (λ trace. RunAnswer p (lines_of trace) s o e) → IfSome start (λ bytes. AnswersRun bytes s o e)

@@ -13,7 +13,7 @@ use Rattle.tdcc_tool.specs.Inputs.{GivesInput}
 use Rattle.tdcc_tool.specs.Answers.{GiveInputs, Ends, AnswersRun}
 use Rattle.tdcc_tool.specs.Completeness.{IsRunnable, EndsWhole, IsRoomFor}
 use Rattle.tdcc_tool.proofs.AcceptedPrograms.{one_accepted}
-use Rattle.tdcc_tool.proofs.OneAnswer.{no_stop}
+use Rattle.tdcc_tool.proofs.OneAnswer.{no_stop, refused_runs_not}
 
 module _ (p : CoreProgram) where
   -- the line at each place gives an input
@@ -39,7 +39,7 @@ module _ (p : CoreProgram) where
   ends_whole lines ins n statuses.Memory e all few h = absurd h
 
 whole_status : (words : List (String Global)) (bytes : List ℕ) (s : Status) (o e : List ℕ) → AnswersRun bytes s o e → IsRunnable words bytes → s ≡ statuses.Ok
-whole_status words bytes s o e (inl refusal) r = absurd (refusal.none r.program r.accepted)
+whole_status words bytes s o e (inl refusal) r = absurd (refused_runs_not (text_of bytes) e r.program refusal.why r.accepted)
 whole_status words bytes s o e (inr (p, accepted, answer)) r =
     let same : r.program ≡ p = one_accepted (text_of bytes) r.program p r.accepted accepted in
     ends_whole p (lines_of (trace_of bytes)) r.inputs (length answer.ins) s e (subst (λ (q : CoreProgram). GiveInputs q (lines_of (trace_of bytes)) r.inputs) same r.given) r.few answer.ends

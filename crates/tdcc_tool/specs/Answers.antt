@@ -8,8 +8,9 @@ use Rattle.tdcc_base.specs.Texts.{text_of, trace_of}
 use Rattle.token_system.specs.Stores.{Valuation}
 use Rattle.agent_core.specs.Programs.{CoreProgram}
 use Rattle.agent_core.specs.Outputs.{IsRun}
-use Rattle.tdcc_tool.specs.Messages.{usage_line, program_line, trace_line}
-use Rattle.tdcc_tool.specs.Accepted.{Accepts}
+use Rattle.tdcc_tool.specs.Messages.{usage_line, program_line, strata_line, trace_line}
+use Rattle.tdcc_tool.specs.Accepted.{IsBuilt, Accepts}
+use Rattle.tdcc_tool.specs.Readings.{IsRefusedCase}
 use Rattle.tdcc_tool.specs.Inputs.{GivesInput}
 use Rattle.tdcc_tool.specs.StoreLines.{store_line}
 
@@ -44,12 +45,17 @@ pub record RunAnswer (p : CoreProgram) (lines : List (List ℕ)) (status : Statu
   pub written : out ≡ store_lines p outs
   pub ends : Ends p lines (length ins) status err
 
--- the answer to a text that is no program's
+-- why a text does not run, with the line that says so: it is that of no program that is built, or its program is not stratified
+abbrev pub Refuses : List ℕ → List ℕ → Type 0
+Refuses text err =
+    (((p : CoreProgram) → IsBuilt text p → ⊥) × (err ≡ program_line))
+    ⊎ ((p : CoreProgram) × IsBuilt text p × (guard told node : ℕ) × IsRefusedCase p guard told node × (err ≡ strata_line p guard told node))
+
+-- the answer to a text that does not run
 pub record Refusal (text : List ℕ) (status : Status) (out err : List ℕ) : Type 0 where
-  pub none : (p : CoreProgram) → Accepts text p → ⊥
+  pub why : Refuses text err
   pub is : status ≡ statuses.Program
   pub nothing : out ≡ []
-  pub told : err ≡ program_line
 
 -- the answer of `run` to the bytes: a program text, and then the trace
 abbrev pub AnswersRun : List ℕ → Status → List ℕ → List ℕ → Type 0

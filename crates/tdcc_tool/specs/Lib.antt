@@ -2,10 +2,11 @@ pub mod Messages
 pub mod Signals
 pub mod Inputs
 pub mod StoreLines
-pub mod Plain
+pub mod Momentary
 pub mod Accepted
 pub mod Faults
-pub mod Walks
+pub mod Readings
+pub mod Tellings
 pub mod Answers
 pub mod Cuts
 pub mod Completeness

@@ -1,6 +1,7 @@
-ghost use Rattle.std.specs.Prelude.{◌≡◌, [], IfOk, string_bytes};
-ghost use Rattle.tdcc_tool.specs.Messages.{program_line, trace_line};
+ghost use Rattle.std.specs.Prelude.{◌≡◌, [], IfOk, slice_get};
+ghost use Rattle.tdcc_tool.specs.Messages.{cell_name, program_line, strata_line, trace_line};
 
+use agent_core::Program;
 use std::alloc::{AllocError, AllocFailed, Global};
 use tdcc_base::Status;
 use token_system::Memory;
@@ -10,7 +11,7 @@ use token_system::Memory;
 pub struct Answer {
     pub status: Status,
     pub out: Vec<u8>,
-    pub err: String,
+    pub err: Vec<u8>,
 }
 
 /// Why there is no answer.
@@ -48,9 +49,44 @@ impl<T: Drop> From<AllocFailed<T>> for Stop {
 pub fn refused_program(alloc: Global) -> Result<Answer, Memory>
     ensures status { IfOk result (λ a. a.status ≡ Status.Program) }
     ensures out { IfOk result (λ a. a.out.items ≡ []) }
-    ensures err { IfOk result (λ a. string_bytes a.err ≡ program_line) }
+    ensures err { IfOk result (λ a. a.err.items ≡ program_line) }
 {
-    let err = String::from_str(alloc, "tdcc: program: not built yet at lexeme 0\n")?;
+    let err = b"tdcc: program: not built yet at lexeme 0\n".to_vec(alloc)?;
+    Ok(Answer {
+        status: Status::Program,
+        out: Vec::new(alloc),
+        err,
+    })
+}
+
+/// The name of the cell, where there is one of this number.
+fn name_of(program: &Program, cell: u32) -> &[u8]
+    ensures { result.now ≡ cell_name (slice_get program.now.cells cell) }
+{
+    match program.cells().get(cell as usize) {
+        Some(decl) => decl.name.bytes(),
+        None => b"".as_slice(),
+    }
+}
+
+/// The answer to a program that depends on its own absence, by the first case that shows it.
+pub fn refused_case(
+    alloc: Global,
+    program: &Program,
+    guard: u32,
+    told: u32,
+    node: u32,
+) -> Result<Answer, Memory>
+    ensures status { IfOk result (λ a. a.status ≡ Status.Program) }
+    ensures out { IfOk result (λ a. a.out.items ≡ []) }
+    ensures err { IfOk result (λ a. a.err.items ≡ strata_line program.now guard told node) }
+{
+    let place = format!(in alloc; " at node {node}\n")?;
+    let mut err = b"tdcc: program: not stratified, ".to_vec(alloc)?;
+    err.extend_from_slice(name_of(program, guard))?;
+    err.extend_from_slice(b" guards ")?;
+    err.extend_from_slice(name_of(program, told))?;
+    err.extend_from_slice(place.as_bytes())?;
     Ok(Answer {
         status: Status::Program,
         out: Vec::new(alloc),
@@ -62,9 +98,11 @@ pub fn refused_program(alloc: Global) -> Result<Answer, Memory>
 pub fn refused_line(alloc: Global, instant: usize, out: Vec<u8>) -> Result<Answer, Memory>
     ensures status { IfOk result (λ a. a.status ≡ Status.Trace) }
     ensures out { IfOk result (λ a. a.out.items ≡ out.items) }
-    ensures err { IfOk result (λ a. string_bytes a.err ≡ trace_line instant) }
+    ensures err { IfOk result (λ a. a.err.items ≡ trace_line instant) }
 {
-    let err = format!(in alloc; "tdcc: trace: instant {instant}: bad token at offset 0\n")?;
+    let line = format!(in alloc; "tdcc: trace: instant {instant}: bad token at offset 0\n")?;
+    let mut err = Vec::new(alloc);
+    err.extend_from_slice(line.as_bytes())?;
     Ok(Answer {
         status: Status::Trace,
         out,
@@ -76,11 +114,11 @@ pub fn refused_line(alloc: Global, instant: usize, out: Vec<u8>) -> Result<Answe
 pub fn ran_to_end(alloc: Global, out: Vec<u8>) -> Answer
     ensures status { result.status ≡ Status.Ok }
     ensures out { result.out.items ≡ out.items }
-    ensures err { string_bytes result.err ≡ [] }
+    ensures err { result.err.items ≡ [] }
 {
     Answer {
         status: Status::Ok,
         out,
-        err: String::new(alloc),
+        err: Vec::new(alloc),
     }
 }

@@ -5,7 +5,7 @@ ghost use Rattle.agent_core.specs.Facts.{IsProgram};
 ghost use Rattle.tdcc_tool.specs.Signals.{HasSignalsOnly};
 ghost use Rattle.tdcc_tool.specs.Inputs.{is_blank as is_blank_of, pieces as pieces_of, cell_named, IsNamed, NoneNamed, GivesInput};
 
-use crate::instant::tell_all;
+use crate::telling::tell_all;
 use agent_core::Program;
 use std::alloc::Global;
 use token_system::{Memory, Store, Token};

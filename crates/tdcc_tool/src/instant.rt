@@ -1,106 +1,69 @@
-ghost use Rattle.std.specs.Prelude.{◌≡◌, ◌<◌, [], length, IfOk, OnOk};
+ghost use Rattle.std.specs.Prelude.{◌≡◌, [], IfOk, List, length};
 ghost use Rattle.token_system.specs.Stores.{Valuation};
 ghost use Rattle.agent_core.specs.Agents.{agent_at};
-ghost use Rattle.agent_core.specs.Rests.{entails, holds};
-ghost use Rattle.agent_core.specs.Stores.{IsStore};
-ghost use Rattle.agent_core.specs.Scope.{TokenFits, AskFits, AgentFits};
-ghost use Rattle.agent_core.specs.Tellings.{tell_all as tell_list};
 ghost use Rattle.agent_core.specs.Outputs.{IsOutput};
-ghost use Rattle.agent_core.specs.Facts.{IsProgram};
-ghost use Rattle.tdcc_tool.specs.Plain.{IsPlain};
-ghost use Rattle.tdcc_tool.specs.Walks.{Walked, told_one};
+ghost use Rattle.agent_core.specs.Stores.{IsInput};
+ghost use Rattle.agent_core.specs.Strata.{Stratifies};
+ghost use Rattle.tdcc_tool.specs.Momentary.{IsMomentary};
 
-use agent_core::{Constraint, Node, Program};
-use token_system::{CellName, Memory, Store, Token};
+use agent_core::{Closure, Levels, Program};
+use agent_laws::{by_roots_law, one_output_law};
+use instant_net::{
+    NetFault, net_outputs_law, open_net, open_words, stratified_net_law, words_store,
+};
+use settle::settle;
+use std::alloc::{AllocError, Global};
+use token_system::{Births, Memory, Store};
 
-/// Whether the store entails the token of a declared cell.
-fn holds_one(program: &Program, pair: &(u32, Token), store: &Store) -> bool
-    requires fits { TokenFits program.now [] pair.now }
-    requires store { IsStore program.now store.now }
-    ensures { result ≡ holds program.now [] store.now pair.now }
+/// The greatest number of leaves of an instant. A program has fewer nodes.
+const LEAVES: u32 = 65_536;
+
+/// The output of the first instant: its net, completed from the words of the input.
+fn first_output(
+    alloc: Global,
+    program: &Program,
+    levels: &Levels,
+    input: &Store,
+) -> Result<Store, Memory>
+    requires stratified { Stratifies program.now levels.now }
+    requires input { IsInput program.now input.now }
+    ensures { IfOk result (IsOutput program.now [] input.now) }
 {
-    let (cell, token) = *pair;
-    let name = CellName::Declared(cell);
-    store.entails(&name, program.cells()[cell as usize].cell, token)
+    let _ = program.declared();
+    one_output_law();
+    by_roots_law();
+    stratified_net_law();
+    net_outputs_law();
+    let root = Closure {
+        node: 0,
+        births: Births::make(Vec::new(alloc)),
+    };
+    let net = match open_net(alloc, program, levels, &[root], 0, LEAVES) {
+        Ok(net) => net,
+        Err(NetFault::NetFull { .. }) => return Err(AllocError),
+        Err(NetFault::Memory) => return Err(AllocError),
+    };
+    let mut words = open_words(alloc, &net, input)?;
+    settle(&net, &mut words, 0);
+    let output = words_store(alloc, &net, &words)?;
+    Ok(output)
 }
 
-/// Tells the token of a declared cell.
-fn tell_one(program: &Program, pair: &(u32, Token), store: &mut Store) -> Result<(), Memory>
-    requires fits { TokenFits program.now [] pair.now }
-    requires store { IsStore program.now store.old }
-    ensures { OnOk result (store.new ≡ told_one program.now pair.now store.old) }
+/// The output of an instant: later ones have nothing left to run.
+pub fn output_of(
+    alloc: Global,
+    program: &Program,
+    levels: &Levels,
+    instant: usize,
+    input: Store,
+) -> Result<Store, Memory>
+    requires momentary { IsMomentary (agent_at program.now.nodes 0) }
+    requires stratified { Stratifies program.now levels.now }
+    requires input { IsInput program.now input }
+    ensures { IfOk result (λ output. (closed : List Valuation) → length closed ≡ instant → IsOutput program.now closed input output) }
 {
-    let (cell, token) = *pair;
-    let name = CellName::Declared(cell);
-    store.tell(name, program.cells()[cell as usize].cell, token)
-}
-
-/// Whether the store entails the constraint.
-fn holds_all(program: &Program, ask: &Constraint, store: &Store) -> bool
-    requires fits { AskFits program.now [] ask.now }
-    requires store { IsStore program.now store.now }
-    ensures { result ≡ entails program.now [] store.now ask.now }
-{
-    for pair in ask.list() {
-        if !holds_one(program, pair, store) {
-            return false;
-        }
+    if instant == 0 {
+        return first_output(alloc, program, levels, &input);
     }
-    true
-}
-
-/// Tells each token of a list.
-pub fn tell_all(program: &Program, list: &[(u32, Token)], store: &mut Store) -> Result<(), Memory>
-    requires fits { AskFits program.now [] list.now }
-    requires store { IsStore program.now store.old }
-    ensures { OnOk result (store.new ≡ tell_list program.now [] list.now store.old) }
-{
-    for pair in list {
-        tell_one(program, pair, store)?;
-    }
-    Ok(())
-}
-
-/// One walk over the agent of a node; whether it told a token that was not entailed.
-fn walk(program: &Program, node: usize, store: &mut Store) -> Result<bool, Memory>
-    requires node { node < length program.now.nodes }
-    requires plain { IsPlain (agent_at program.now.nodes node) }
-    requires fits { AgentFits program.now 0 (agent_at program.now.nodes node) [] }
-    requires store { IsStore program.now store.old }
-    ensures { IfOk result (λ changed. Walked program.now (agent_at program.now.nodes node) store.old store.new changed) }
-{
-    match &program.nodes()[node] {
-        Node::Tell(told) => {
-            if holds_all(program, told, store) {
-                return Ok(false);
-            }
-            tell_all(program, told.list(), store)?;
-            Ok(true)
-        }
-        Node::Then { ask, body } => {
-            if holds_all(program, ask, store) {
-                return walk(program, *body as usize, store);
-            }
-            Ok(false)
-        }
-        Node::Par { left, right } => {
-            let first = walk(program, *left as usize, store)?;
-            let second = walk(program, *right as usize, store)?;
-            Ok(first || second)
-        }
-        _ => Ok(false),
-    }
-}
-
-/// The output of the first instant: walks over the program until a walk tells nothing new.
-pub fn settle_plain(program: &Program, input: Store) -> Result<Store, Memory>
-    requires program { IsProgram program.now }
-    requires plain { IsPlain (agent_at program.now.nodes 0) }
-    requires store { IsStore program.now input }
-    ensures output { IfOk result (λ output. IsOutput program.now [] input output) }
-    ensures only { IfOk result (λ output. (other : Valuation) → IsOutput program.now [] input other → output ≡ other) }
-{
-    let mut store = input;
-    while walk(program, 0, &mut store)? {}
-    Ok(store)
+    Ok(input)
 }

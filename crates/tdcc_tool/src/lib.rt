@@ -8,6 +8,7 @@ mod laws;
 mod reading;
 mod run;
 mod store_line;
+mod telling;
 #[cfg(test)]
 mod tests;
 mod top;

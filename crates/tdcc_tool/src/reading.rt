@@ -5,33 +5,54 @@ ghost use Rattle.tdcc_reader.specs.Surfaces.{SurfaceProgram};
 ghost use Rattle.tdcc_reader.specs.Texts.{ReadsAs};
 ghost use Rattle.derived_forms.specs.Expansions.{IsExpansion};
 ghost use Rattle.tdcc_tool.specs.declared.answer.Stop as Stop;
-ghost use Rattle.tdcc_tool.specs.Accepted.{Accepts, IsFirstForm};
+ghost use Rattle.tdcc_tool.specs.Accepted.{IsBuilt, IsBuiltForm};
 ghost use Rattle.tdcc_tool.specs.Faults.{is_memory as is_memory_of};
-ghost use Rattle.tdcc_tool.specs.Plain.{is_plain_node};
+ghost use Rattle.tdcc_tool.specs.Momentary.{is_momentary_node};
+ghost use Rattle.tdcc_tool.specs.Readings.{IsReadingOf};
 ghost use Rattle.tdcc_tool.specs.Signals.{is_signal_kind};
 
 use crate::answer::Stop;
-use agent_core::{CellDecl, Node, Program};
+use agent_core::{CellDecl, Levels, Node, Program};
 use derived_forms::{ExpandFault, expand};
 use std::alloc::Global;
+use strata::{StrataFault, strata};
 use tdcc_reader::{ReadFault, Surface, read_program as read_surface};
 use token_system::Kind;
 
-/// Whether the node is one that the loop of a run takes.
-fn is_plain(node: &Node) -> bool
-    ensures { result ≡ is_plain_node node.now }
+/// What a text is.
+#[derive(Drop)]
+pub enum Reading {
+    /// A program that runs, with a table that stratifies it.
+    Runs {
+        program: Program,
+        levels: Levels,
+    },
+    /// No program of a form that is built.
+    NotBuilt,
+    /// A program that no table stratifies, and the first case that shows it.
+    NotStratified {
+        program: Program,
+        guard: u32,
+        told: u32,
+        node: u32,
+    },
+}
+
+/// Whether the node leaves nothing for later instants and has no local cell.
+fn is_momentary(node: &Node) -> bool
+    ensures { result ≡ is_momentary_node node.now }
 {
     match node {
-        Node::Skip | Node::Tell(_) | Node::Then { .. } | Node::Par { .. } => true,
-        Node::Else { .. } | Node::New { .. } | Node::Hence { .. } | Node::Next { .. } => false,
+        Node::New { .. } | Node::Hence { .. } | Node::Next { .. } => false,
+        _ => true,
     }
 }
 
-/// Whether the loop of a run takes each of the nodes.
-fn are_plain(nodes: &[Node]) -> bool
-    ensures { result ≡ list_all is_plain_node nodes.now }
+/// Whether each of the nodes does.
+fn are_momentary(nodes: &[Node]) -> bool
+    ensures { result ≡ list_all is_momentary_node nodes.now }
 {
-    nodes.iter().all(|node| is_plain(node))
+    nodes.iter().all(|node| is_momentary(node))
 }
 
 /// Whether each of the cells is a signal.
@@ -41,11 +62,11 @@ fn are_signals(cells: &[CellDecl]) -> bool
     cells.iter().all(|decl| decl.cell.kind == Kind::Signal)
 }
 
-/// Whether a program is of the form that runs.
-fn is_first_form(program: &Program) -> bool
-    ensures { IsTrue result ↔ IsFirstForm program.now }
+/// Whether a program is of the form that is built.
+fn is_built_form(program: &Program) -> bool
+    ensures { IsTrue result ↔ IsBuiltForm program.now }
 {
-    are_plain(program.nodes()) && are_signals(program.cells())
+    are_momentary(program.nodes()) && are_signals(program.cells())
 }
 
 /// Whether the refusal is want of memory.
@@ -84,9 +105,9 @@ fn program_of(alloc: Global, surface: &Surface) -> Result<Option<Program>, Stop>
     }
 }
 
-/// The program of a text, where the text is one that runs.
-pub fn read_program(alloc: Global, text: &[u8]) -> Result<Option<Program>, Stop>
-    ensures found { IfOk result (λ found. MatchOption found ((p : CoreProgram) → Accepts text.now p → ⊥) (λ program. Accepts text.now program)) }
+/// The program of a text, where it is within the limits and of the form that is built.
+fn built_program(alloc: Global, text: &[u8]) -> Result<Option<Program>, Stop>
+    ensures found { IfOk result (λ found. MatchOption found ((p : CoreProgram) → IsBuilt text.now p → ⊥) (IsBuilt text.now)) }
     ensures only { IfErr result (λ stop. stop ≡ Stop.Memory) }
 {
     let Some(surface) = surface_of(alloc, text)? else {
@@ -95,9 +116,29 @@ pub fn read_program(alloc: Global, text: &[u8]) -> Result<Option<Program>, Stop>
     let Some(program) = program_of(alloc, &surface)? else {
         return Ok(None);
     };
-    if is_first_form(&program) {
+    if is_built_form(&program) {
         Ok(Some(program))
     } else {
         Ok(None)
+    }
+}
+
+/// Reads a program text.
+pub fn read_program(alloc: Global, text: &[u8]) -> Result<Reading, Stop>
+    ensures found { IfOk result (IsReadingOf text.now) }
+    ensures only { IfErr result (λ stop. stop ≡ Stop.Memory) }
+{
+    let Some(program) = built_program(alloc, text)? else {
+        return Ok(Reading::NotBuilt);
+    };
+    match strata(alloc, &program) {
+        Ok(levels) => Ok(Reading::Runs { program, levels }),
+        Err(StrataFault::NotStratified { guard, told, node }) => Ok(Reading::NotStratified {
+            program,
+            guard,
+            told,
+            node,
+        }),
+        Err(StrataFault::Memory) => Err(Stop::Memory),
     }
 }

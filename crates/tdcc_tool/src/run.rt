@@ -1,54 +1,41 @@
-ghost use Rattle.std.specs.Prelude.{◌≡◌, ◌≤◌, [], ℕ, List, length, IfOk, IfSome, OnSome, IsNone, IsErrOf, Some, string_bytes};
+ghost use Rattle.std.specs.Prelude.{◌≡◌, ◌≤◌, [], ℕ, List, length, IfOk, IfSome, OnSome, IsNone, IsErrOf, Some};
 ghost use Rattle.std.specs.Bool.{MatchBool};
 ghost use Rattle.tdcc_base.specs.Causes.{Rose};
 ghost use Rattle.tdcc_base.specs.Promises.{StaysSteady};
 ghost use Rattle.tdcc_base.specs.Lines.{lines_of};
 ghost use Rattle.tdcc_base.specs.Waiting.{waiting, source_of, stop_of, LinesReady, IsFirst, name_of};
-ghost use Rattle.token_system.specs.Stores.{Valuation};
 ghost use Rattle.agent_core.specs.Agents.{agent_at};
-ghost use Rattle.agent_core.specs.Stores.{IsStore};
-ghost use Rattle.agent_core.specs.Outputs.{IsOutput};
-ghost use Rattle.tdcc_tool.specs.Plain.{IsPlain};
+ghost use Rattle.agent_core.specs.Strata.{Stratifies};
+ghost use Rattle.tdcc_tool.specs.Momentary.{IsMomentary};
 ghost use Rattle.tdcc_tool.specs.Signals.{HasSignalsOnly};
 ghost use Rattle.tdcc_tool.specs.Answers.{AnswersRun, RunAnswer, Stops};
 ghost use Rattle.tdcc_tool.specs.Instants.{Goes};
 ghost use Rattle.tdcc_tool.specs.Ends.{IsRunEnd};
 
-use crate::answer::{Answer, Stop, ran_to_end, refused_line, refused_program};
+use crate::answer::{Answer, Stop, ran_to_end, refused_case, refused_line, refused_program};
 use crate::input::read_input;
-use crate::instant::settle_plain;
-use crate::reading::read_program;
+use crate::instant::output_of;
+use crate::reading::{Reading, read_program};
 use crate::store_line::write_store;
-use agent_core::Program;
+use agent_core::{Levels, Program};
 use std::alloc::Global;
 use tdcc_base::{LineEnd, Lines, ReadStop, Source, Status};
-use token_system::{Memory, Store};
+use token_system::Memory;
 
 /// How many instants a run has at most.
 const INSTANTS: usize = 65536;
-
-/// The output of an instant: later ones have nothing left to run.
-fn output_of(program: &Program, instant: usize, input: Store) -> Result<Store, Memory>
-    requires plain { IsPlain (agent_at program.now.nodes 0) }
-    requires store { IsStore program.now input }
-    ensures { IfOk result (λ output. (closed : List Valuation) → length closed ≡ instant → IsOutput program.now closed input output) }
-{
-    let _ = program.declared();
-    if instant == 0 {
-        return settle_plain(program, input);
-    }
-    Ok(input)
-}
 
 /// Runs one instant and writes its line; whether the run goes on.
 fn run_line(
     alloc: Global,
     program: &Program,
+    levels: &Levels,
     instant: usize,
     line: &[u8],
     out: &mut Vec<u8>,
 ) -> Result<bool, Memory>
-    requires plain { IsPlain (agent_at program.now.nodes 0) }
+    requires momentary { IsMomentary (agent_at program.now.nodes 0) }
+    requires stratified { Stratifies program.now levels.now }
     requires signals { HasSignalsOnly program.now }
     requires few { instant ≤ 65536 }
     ensures { IfOk result (λ going. MatchBool going
@@ -61,7 +48,7 @@ fn run_line(
     let Some(input) = read_input(alloc, program, line)? else {
         return Ok(false);
     };
-    let output = output_of(program, instant, input)?;
+    let output = output_of(alloc, program, levels, instant, input)?;
     write_store(program, &output, out)?;
     out.push(b'\n')?;
     Ok(true)
@@ -71,15 +58,17 @@ fn run_line(
 fn run_trace<S: Source>(
     alloc: Global,
     program: &Program,
+    levels: &Levels,
     lines: &mut Lines<'_, S>,
 ) -> Result<Answer, Stop>
-    requires plain { IsPlain (agent_at program.now.nodes 0) }
+    requires momentary { IsMomentary (agent_at program.now.nodes 0) }
+    requires stratified { Stratifies program.now levels.now }
     requires signals { HasSignalsOnly program.now }
     requires ready { LinesReady S.left lines.old }
     requires going_on { IsNone (stop_of lines.old) }
     ensures same_reference { name_of lines.new ≡ name_of lines.old }
     ensures answer { IfOk result (λ a. IfSome (waiting S.left lines.old) (λ trace.
-        RunAnswer program.now (lines_of trace) a.status a.out.items (string_bytes a.err))) }
+        RunAnswer program.now (lines_of trace) a.status a.out.items a.err.items)) }
     ensures ended { IfOk result (λ a. a.status ≡ Status.Ok → OnSome (waiting S.left lines.old) (S.left (source_of lines.new) ≡ Some [])) }
     ensures run_end { IfOk result (λ a. IsRunEnd a.status) }
     ensures later { S.faults (source_of lines.old) ≤ S.faults (source_of lines.new) }
@@ -94,7 +83,7 @@ fn run_trace<S: Source>(
             Err(ReadStop::TooLong) => return Ok(refused_line(alloc, instant, out)?),
             Ok(LineEnd::End) => return Ok(ran_to_end(alloc, out)),
             Ok(LineEnd::Line) => {
-                let going = run_line(alloc, program, instant, lines.line(), &mut out)?;
+                let going = run_line(alloc, program, levels, instant, lines.line(), &mut out)?;
                 if !going {
                     return Ok(refused_line(alloc, instant, out)?);
                 }
@@ -108,7 +97,7 @@ fn run_trace<S: Source>(
 pub fn run_lines<S: Source>(alloc: Global, lines: &mut Lines<'_, S>) -> Result<Answer, Stop>
     requires first { IsFirst S.left lines.old }
     ensures same_reference { name_of lines.new ≡ name_of lines.old }
-    ensures answer { IfOk result (λ a. IfSome (waiting S.left lines.old) (λ bytes. AnswersRun bytes a.status a.out.items (string_bytes a.err))) }
+    ensures answer { IfOk result (λ a. IfSome (waiting S.left lines.old) (λ bytes. AnswersRun bytes a.status a.out.items a.err.items)) }
     ensures ended { IfOk result (λ a. a.status ≡ Status.Ok → OnSome (waiting S.left lines.old) (S.left (source_of lines.new) ≡ Some [])) }
     ensures run_end { IfOk result (λ a. IsRunEnd a.status) }
     ensures later { S.faults (source_of lines.old) ≤ S.faults (source_of lines.new) }
@@ -121,7 +110,13 @@ pub fn run_lines<S: Source>(alloc: Global, lines: &mut Lines<'_, S>) -> Result<A
         Ok(_) => {}
     }
     match read_program(alloc, lines.text())? {
-        None => Ok(refused_program(alloc)?),
-        Some(program) => run_trace(alloc, &program, lines),
+        Reading::Runs { program, levels } => run_trace(alloc, &program, &levels, lines),
+        Reading::NotBuilt => Ok(refused_program(alloc)?),
+        Reading::NotStratified {
+            program,
+            guard,
+            told,
+            node,
+        } => Ok(refused_case(alloc, &program, guard, told, node)?),
     }
 }

@@ -1,4 +1,4 @@
-ghost use Rattle.std.specs.Prelude.{◌≡◌, ◌↔◌, ℕ, List, [], IfOk, IfSome, OnSome, IsTrue, IsErrOf, Some, string_bytes};
+ghost use Rattle.std.specs.Prelude.{◌≡◌, ◌↔◌, ℕ, List, [], IfOk, IfSome, OnSome, IsTrue, IsErrOf, Some};
 ghost use Rattle.std.specs.Io.KnownBytes.{Appends, Consumes};
 ghost use Rattle.tdcc_base.specs.Causes.{Rose};
 ghost use Rattle.tdcc_base.specs.Written.{Tells};
@@ -32,7 +32,7 @@ fn tell<E: Sink>(err: &mut E, line: &[u8])
 
 /// Reads all there is, and answers it.
 fn answer_run<S: Source>(alloc: Global, source: &mut S) -> Result<Answer, Stop>
-    ensures answer { IfOk result (λ a. IfSome (S.left source.old) (λ bytes. AnswersRun bytes a.status a.out.items (string_bytes a.err))) }
+    ensures answer { IfOk result (λ a. IfSome (S.left source.old) (λ bytes. AnswersRun bytes a.status a.out.items a.err.items)) }
     ensures ended { IfOk result (λ a. a.status ≡ Status.Ok → OnSome (S.left source.old) (S.left source.new ≡ Some [])) }
     ensures read { IsErrOf result Stop.Read → Rose (S.faults source.old) (S.faults source.new) }
     ensures steady { IsTrue (S.steady source.old) → IsErrOf result Stop.Read → ⊥ }
@@ -98,7 +98,7 @@ pub fn tdcc<R: Threads + Sync, S: Source, K: Sink, E: Sink, G: Gate>(
     match answer_run(alloc, source) {
         Ok(answer) => match write_all(out, answer.out.as_slice()) {
             Ok(()) => {
-                tell(err, answer.err.as_bytes());
+                tell(err, answer.err.as_slice());
                 answer.status
             }
             Err(Failed) => {

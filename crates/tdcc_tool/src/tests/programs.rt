@@ -43,11 +43,40 @@ fn a_clash_entails_each_token_of_its_cell(rt: HostRuntime) -> Result<(), Fail> {
 }
 
 #[test]
+fn a_default_runs_where_the_final_store_lacks_its_ask(rt: HostRuntime) -> Result<(), Fail> {
+    let alloc = rt.alloc();
+    let input = b"signal a, b, c; if a else b || if b else c\n%%\n\n\n".as_slice();
+    assert_run(&rt, alloc, input, "0|b\n\n|")?;
+    let input = b"signal a, b, c; if a else b || if b else c\n%%\na\n".as_slice();
+    assert_run(&rt, alloc, input, "0|a c\n|")?;
+    let input = b"signal a, b; if a else b || a\n%%\n\n".as_slice();
+    assert_run(&rt, alloc, input, "0|a\n|")?;
+    let input = b"signal a, b; a || b || if a else b\n%%\n\n".as_slice();
+    assert_run(&rt, alloc, input, "0|a b\n|")
+}
+
+#[test]
+fn nothing_is_told_on_its_own_account(rt: HostRuntime) -> Result<(), Fail> {
+    let input = b"signal a; if a then a\n%%\n\n".as_slice();
+    assert_run(&rt, rt.alloc(), input, "0|\n|")
+}
+
+#[test]
+fn a_program_that_depends_on_its_own_absence_is_refused(rt: HostRuntime) -> Result<(), Fail> {
+    let alloc = rt.alloc();
+    let itself = b"signal a; if a else a".as_slice();
+    let wanted = "3||tdcc: program: not stratified, a guards a at node 0\n";
+    assert_run(&rt, alloc, itself, wanted)?;
+    let each_other = b"signal a, b; if a else b || if b else a".as_slice();
+    let wanted = "3||tdcc: program: not stratified, a guards b at node 1\n";
+    assert_run(&rt, alloc, each_other, wanted)
+}
+
+#[test]
 fn texts_of_other_forms_are_refused(rt: HostRuntime) -> Result<(), Fail> {
     let alloc = rt.alloc();
     for text in [
         "signal a, b; always if a else b\n%%\n\na\n",
-        "signal a, b; if a else b",
         "signal a; hence a",
         "signal a; next a",
         "new signal a in a",

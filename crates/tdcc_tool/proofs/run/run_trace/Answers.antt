@@ -1,5 +1,5 @@
 use Rattle.std.proofs.Common.{refl, sym, ◌∙◌, subst, arith, List, ℕ}
-use Rattle.std.specs.Prelude.{IfSome, string_bytes}
+use Rattle.std.specs.Prelude.{IfSome}
 use Rattle.tdcc_base.specs.declared.status.Status.TheVariants as statuses
 use Rattle.tdcc_base.specs.Waiting.{waiting, line_read}
 use Rattle.tdcc_tool.specs.Messages.{trace_line}
@@ -31,8 +31,8 @@ pub returns-in-Ok-End-clause-answer : goal.returns-in-Ok-End-clause-answer
 returns-in-Ok-End-clause-answer g c =
     let h = (rw c.in-Ok-End.field-0-is at c.in-Ok-End.ensures.line) c.lines.invariant.going_on in
     let k = c.ran_to_end.ensures in
-    as_answer c.args.program.now (waiting g.S.Source.left c.args.lines.now) _ statuses.Ok _ c.lines.out.items _ (string_bytes c.ran_to_end.result.err) k.status k.out refl
-    (ended_ok c.args.program.now (waiting g.S.Source.left c.args.lines.now) (waiting g.S.Source.left c.lines.lines) (waiting g.S.Source.left c.read_line.new.self) (line_read c.read_line.new.self) c.lines.out.items (string_bytes c.ran_to_end.result.err) c.lines.instant c.lines.invariant.so_far h k.err c.lines.invariant.few)
+    as_answer c.args.program.now (waiting g.S.Source.left c.args.lines.now) _ statuses.Ok _ c.lines.out.items _ c.ran_to_end.result.err.items k.status k.out refl
+    (ended_ok c.args.program.now (waiting g.S.Source.left c.args.lines.now) (waiting g.S.Source.left c.lines.lines) (waiting g.S.Source.left c.read_line.new.self) (line_read c.read_line.new.self) c.lines.out.items c.ran_to_end.result.err.items c.lines.instant c.lines.invariant.so_far h k.err c.lines.invariant.few)
 
 pub returns-then-not-going-clause-answer : goal.returns-then-not-going-clause-answer
 returns-then-not-going-clause-answer g c =

@@ -1,9 +1,10 @@
 use Rattle.std.proofs.Common.{[], Err, false, refl, ◌∙◌, inl, inr, subst}
-use Rattle.tdcc_base.specs.Written.{AppendsPart}
+use Rattle.std.specs.Io.KnownBytes.{Appends}
+use Rattle.tdcc_base.specs.Written.{AppendsPart, Tells}
 use Rattle.tdcc_base.proofs.Known.{Appends-nothing}
 use Rattle.tdcc_tool.specs.Messages.{usage_line}
 use Rattle.tdcc_tool.specs.Answers.{IsRunCommand}
-use Rattle.tdcc_tool.proofs.Texts.{IfSome-all, IfSome-at, true_and_false}
+use Rattle.tdcc_tool.proofs.Texts.{IfSome-all, IfSome-map, IfSome-at, true_and_false}
 use Rattle.tdcc_tool.proofs.OneAnswer.{one_answer}
 use Rattle.tdcc_tool.proofs.WholeRuns.{runs_whole, no_room}
 use Rattle.tdcc_tool.proofs.top.tdcc.Goals as goal
@@ -30,3 +31,14 @@ returns-in-Ok-clause-roomy g c bytes s o e known answer room is =
     let ours = IfSome-at (g.S.Source.left c.args.source.now) bytes _ known c.in-Ok.ensures.answer in
     let same = one_answer c.args.words.now bytes c.in-Ok.answer.status s c.in-Ok.answer.out.items o _ e (inl (is_run, ours)) answer in
     no_room {T = Unit {0}} (g.K.Sink.room c.args.out.now) (g.K.Sink.room c.write_all.new.sink) c.as_slice.result.now o (Err c.in-Err.field-0) (λ h. true_and_false false h refl) c.in-Err.ensures.roomy (c.as_slice.ensures.value ∙ same.1) room
+
+pub returns-in-Ok-write_all-clause-answer : goal.returns-in-Ok-write_all-clause-answer
+returns-in-Ok-write_all-clause-answer g c _ =
+    let is_run : IsRunCommand c.args.words.now = c.is_run.ensures.0 c.if-not-is_run.false in
+    IfSome-map (g.S.Source.left c.args.source.now) _ _ c.in-Ok.ensures.answer (λ bytes answer. (
+      c.in-Ok.answer.out.items,
+      c.in-Ok.answer.err.items,
+      inl (is_run, answer),
+      subst (Appends (g.K.Sink.written c.args.out.now) (g.K.Sink.written c.write_all.new.sink)) c.as_slice.ensures.value c.in-Ok-write_all.ensures.ok,
+      subst (Tells (g.E.Sink.written c.args.err.now) (g.E.Sink.written c.tell-in-Ok-write_all.new.err) (g.E.Sink.faults c.args.err.now) (g.E.Sink.faults c.tell-in-Ok-write_all.new.err)) c.as_slice-in-Ok-write_all.ensures.value c.tell-in-Ok-write_all.ensures,
+    ))

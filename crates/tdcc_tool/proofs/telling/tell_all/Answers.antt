@@ -2,7 +2,7 @@ use Rattle.std.proofs.Common.{[], ap, refl, subst, sym, ◌∙◌, drop, ◌+◌
 use Rattle.agent_core.specs.Stores.{IsStore}
 use Rattle.agent_core.specs.Tellings.{tell_all}
 use Rattle.tdcc_tool.proofs.DeclaredTokens.{AskFits-item, store_told, tell_next}
-use Rattle.tdcc_tool.proofs.instant.tell_all.Goals as goal
+use Rattle.tdcc_tool.proofs.telling.tell_all.Goals as goal
 
 pub tell_one-requires-clause-fits : goal.tell_one-requires-clause-fits
 tell_one-requires-clause-fits c = AskFits-item c.args.program.now [] c.args.list.now c.args.list.now c.loop-pair.pair-index _ c.requires.fits refl c.loop-pair-test.true

@@ -1,7 +1,7 @@
 use Rattle.std.proofs.Common.{◌≡◌, [], drop}
 use Rattle.agent_core.specs.Stores.{IsStore}
 use Rattle.agent_core.specs.Tellings.{tell_all}
-use Rattle.tdcc_tool.proofs.instant.tell_all.Given as goal
+use Rattle.tdcc_tool.proofs.telling.tell_all.Given as goal
 
 abbrev pub invariant-loop-pair : goal.invariant-loop-pair
 invariant-loop-pair l = record {

@@ -1,7 +1,7 @@
 use Rattle.derived_forms.proofs.Surfaces.{some_program}
 use Rattle.tdcc_tool.proofs.AcceptedPrograms.{none_read, none_small, none_formed}
 use Rattle.tdcc_tool.proofs.Texts.{true_and_false}
-use Rattle.tdcc_tool.proofs.reading.read_program.Goals as goal
+use Rattle.tdcc_tool.proofs.reading.built_program.Goals as goal
 
 pub returns-in_default-clause-found : goal.returns-in_default-clause-found
 returns-in_default-clause-found c = none_read c.args.text.now (rw c.in_default.is at c.in_ok-surface.ensures.found)
@@ -15,4 +15,4 @@ pub returns-clause-found : goal.returns-clause-found
 returns-clause-found c =
     let reads = rw c.in-Some.is at c.in_ok-surface.ensures.found in
     let expansion = rw c.in-Some-2.is at c.in_ok-program.ensures.found in
-    none_formed c.args.text.now c.in-Some-2.program (c.in-Some.surface, reads, expansion) (λ f. true_and_false c.is_first_form.result (c.is_first_form.ensures.1 f) c.if-is_first_form.false)
+    none_formed c.args.text.now c.in-Some-2.program (c.in-Some.surface, reads, expansion) (λ f. true_and_false c.is_built_form.result (c.is_built_form.ensures.1 f) c.if-is_built_form.false)
