@@ -11,6 +11,7 @@ pub mod NewsInOrder
 pub mod Depths
 pub mod AskTests
 pub mod RestTests
+pub mod ObservedTests
 pub mod OneStore
 pub mod Told
 pub mod Bools

@@ -30,7 +30,7 @@ module _ (p : CoreProgram) (is : IsProgram p) (n : ℕ) (b : List ℕ) (closure 
     pub inside : m < length p.nodes
     pub is_closure : IsClosure p m births
 
-  facts : (node : Node) → slice_get p.nodes n ≡ Some node → IsNodeAt p.nodes n node
+  pub facts : (node : Node) → slice_get p.nodes n ≡ Some node → IsNodeAt p.nodes n node
   facts node found = node_of_listing p.nodes is.tree n node found
 
   body : (m : ℕ) → IsPart p.nodes n (depth_of p.nodes n) m → IsBodyOf b m
@@ -56,6 +56,12 @@ module _ (p : CoreProgram) (is : IsProgram p) (n : ℕ) (b : List ℕ) (closure 
       let part = (facts (nodes.New cell m) found).parts in
       let long = closure.long in let deep = part.deep in
       record { above = part.above; inside = part.inside; is_closure = record { node = part.inside; long = omega (arith, length-append b (t ∷ [])) } }
+
+  pub hence_body : (m : ℕ) → slice_get p.nodes n ≡ Some (nodes.Hence m) → IsBodyOf b m
+  hence_body m found = body m (facts (nodes.Hence m) found).parts
+
+  pub next_body : (m : ℕ) → slice_get p.nodes n ≡ Some (nodes.Next m) → IsBodyOf b m
+  next_body m found = body m (facts (nodes.Next m) found).parts
 
   module _ (t : ℕ) (u v : Valuation) where
     -- a node rests as the agent that it stands for

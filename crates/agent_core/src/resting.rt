@@ -29,7 +29,7 @@ fn holds(
 }
 
 /// Whether the store entails each token of the constraint.
-fn entails(
+pub(crate) fn entails(
     alloc: Global,
     program: &Program,
     births: &[u32],
@@ -50,7 +50,7 @@ fn entails(
 }
 
 /// The same as `rests`, for the node with these births.
-fn node_rests(
+pub(crate) fn node_rests(
     alloc: Global,
     program: &Program,
     node: u32,

@@ -1,13 +1,8 @@
-use Rattle.std.proofs.Common.{sym, ◌∙◌, subst}
+use Rattle.std.proofs.Common.{sym, subst}
 use Rattle.token_system.specs.Stores.{Valuation}
-use Rattle.agent_core.specs.Names.{IsClosure}
 use Rattle.agent_core.specs.Stores.{IsStore, Below}
-use Rattle.agent_core.proofs.Scopes.{root-IsClosure}
 use Rattle.agent_core.proofs.Tellings.{empty-IsStore, empty-Below}
 use Rattle.agent_core.proofs.tests.root_rests.Goals as goal
-
-pub rests-requires-clause-closure : goal.rests-requires-clause-closure
-rests-requires-clause-closure c = subst (IsClosure c.args.program.now 0) (sym (c.make.ensures ∙ c.new.ensures.items)) (root-IsClosure c.args.program.now c.requires.program)
 
 pub rests-requires-clause-store : goal.rests-requires-clause-store
 rests-requires-clause-store c = subst (IsStore c.args.program.now) (sym c.new-empty.ensures) (empty-IsStore c.args.program.now)
@@ -15,14 +10,8 @@ rests-requires-clause-store c = subst (IsStore c.args.program.now) (sym c.new-em
 pub rests-requires-clause-guess : goal.rests-requires-clause-guess
 rests-requires-clause-guess c = subst (IsStore c.args.program.now) (sym c.new-empty.ensures) (empty-IsStore c.args.program.now)
 
-pub rests-requires-2-clause-closure : goal.rests-requires-2-clause-closure
-rests-requires-2-clause-closure c = subst (IsClosure c.args.program.now 0) (sym (c.make.ensures ∙ c.new.ensures.items)) (root-IsClosure c.args.program.now c.requires.program)
-
 pub rests-requires-2-clause-store : goal.rests-requires-2-clause-store
 rests-requires-2-clause-store c = subst (IsStore c.args.program.now) (sym c.new-empty.ensures) (empty-IsStore c.args.program.now)
 
 pub rests-requires-2-clause-below : goal.rests-requires-2-clause-below
 rests-requires-2-clause-below c = subst (λ (x : Valuation). Below c.args.program.now x c.args.on.now) (sym c.new-empty.ensures) (empty-Below c.args.program.now c.args.on.now c.requires.store)
-
-pub rests-requires-3-clause-closure : goal.rests-requires-3-clause-closure
-rests-requires-3-clause-closure c = subst (IsClosure c.args.program.now 0) (sym (c.make.ensures ∙ c.new.ensures.items)) (root-IsClosure c.args.program.now c.requires.program)
