@@ -16,7 +16,9 @@ pub use laws::{net_outputs_law, net_rests_law, stratified_net_law};
 pub use net::Net;
 pub use opening::{NetFault, open_net};
 pub use parts::Atom;
-pub use words::{How, Told, Words, holds, open_words, put, runs, tell, value, words_store};
+pub use words::{
+    How, Told, Words, front_store, holds, open_words, put, runs, tell, value, words_store,
+};
 
 #[cfg(test)]
 mod tests;

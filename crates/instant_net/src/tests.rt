@@ -4,6 +4,8 @@ ghost use Rattle.agent_core.specs.Closures.{closure_cmp};
 ghost use Rattle.agent_core.specs.Facts.{IsProgram};
 ghost use Rattle.agent_laws.specs.Laws.{AreClosures};
 
+mod fronts;
+
 use crate::collecting::net_cells;
 use crate::parts::{Atom, Atoms, LeafKind, NetGuard, NetLeaf};
 use crate::walking::net_parts;

@@ -1,5 +1,5 @@
 //! Words of stores, and stores of words.
-ghost use Rattle.std.specs.Prelude.{◌≡◌, ◌++◌, IfOk, OnErr, OnOk};
+ghost use Rattle.std.specs.Prelude.{◌≡◌, ◌≤◌, ◌++◌, IfOk, OnErr, OnOk, length, take};
 ghost use Rattle.std.specs.FinMap as map;
 ghost use Rattle.token_system.specs.Stores.{stored, value_at};
 ghost use Rattle.token_system.specs.Values.{IsValueOf};
@@ -66,8 +66,17 @@ pub fn words_store(alloc: Global, net: &Net, words: &Words) -> Result<Store, Mem
     requires { AreWords net.now.cells words.now }
     ensures { IfOk result (λ store. store ≡ store_in net.now.cells words.now) }
 {
+    front_store(alloc, net, words, net.cells())
+}
+
+/// The store that the words of the first so many cells are. Where these are the declared ones, no local cell is in it.
+pub fn front_store(alloc: Global, net: &Net, words: &Words, cells: u32) -> Result<Store, Memory>
+    requires cells { cells ≤ length net.now.cells }
+    requires words { AreWords net.now.cells words.now }
+    ensures { IfOk result (λ store. store ≡ store_in (take cells net.now.cells) words.now) }
+{
     let mut store = Store::new(alloc);
-    for place in 0..net.cells() {
+    for place in 0..cells {
         let name = net.cell_name(place).copy()?;
         keep(&mut store, name, net.cell(place), value(net, words, place))?;
     }

@@ -1,38 +1,12 @@
-use Rattle.std.proofs.Common.{◌≡◌, None, sym, ap, ◌∙◌, subst, arith, take}
-use Rattle.std.specs.FinMap.{get}
+use Rattle.std.proofs.Common.{◌≡◌, List, subst, arith, take}
+use Rattle.std.specs.Prelude.{IfOk}
 use Rattle.std.proofs.lemmas.List.{take_all}
-use Rattle.token_system.specs.declared.cell.Cell.{Cell}
-use Rattle.token_system.specs.declared.name.CellName.{CellName}
-use Rattle.token_system.specs.Stores.{Valuation, stored}
-use Rattle.token_system.specs.Values.{IsValueOf}
+use Rattle.instant_net.specs.declared.parts.NetCell.{NetCell}
 use Rattle.instant_net.specs.Words.{store_in}
-use Rattle.instant_net.proofs.KeptValues.{place_read, absent_yet, store_in-more}
 use Rattle.instant_net.proofs.words.stores.words_store.Goals as goal
-
-pub keep-requires-clause-absent : goal.keep-requires-clause-absent
-keep-requires-clause-absent c =
-    let r = place_read c.args.net.now.cells c.loop-place.place c.cell_name.result.now c.cell.result c.cell_name.ensures c.cell.ensures.cell in
-    subst (λ (n : CellName). get c.loop-place.store n ≡ None) (sym (c.in_ok-name.ensures ∙ sym r.same_name))
-    (ap (λ s. get s r.found.name) c.loop-place.invariant ∙ absent_yet c.args.net.now.cells c.args.words.now c.cell.ensures.net.of.cells.order c.loop-place.place r.found r.at)
-
-pub keep-requires-clause-value : goal.keep-requires-clause-value
-keep-requires-clause-value c =
-    let r = place_read c.args.net.now.cells c.loop-place.place c.cell_name.result.now c.cell.result c.cell_name.ensures c.cell.ensures.cell in
-    subst (λ (x : Cell). IsValueOf x c.value.result) r.same_cell (c.value.ensures.of_cell r.found r.at)
-
-pub loop-place-preserved : goal.loop-place-preserved
-loop-place-preserved c =
-    let r = place_read c.args.net.now.cells c.loop-place.place c.cell_name.result.now c.cell.result c.cell_name.ensures c.cell.ensures.cell in
-    let before : Valuation = store_in (take c.loop-place.place c.args.net.now.cells) c.args.words.now in
-    c.in_ok-keep.ensures
-    ∙ ap (λ s. stored s c.in_ok-name.name c.cell.result c.value.result) c.loop-place.invariant
-    ∙ ap (λ n. stored before n c.cell.result c.value.result) (c.in_ok-name.ensures ∙ sym r.same_name)
-    ∙ ap (λ x. stored before r.found.name x c.value.result) (sym r.same_cell)
-    ∙ ap (stored before r.found.name r.found.cell) (c.value.ensures.value r.found r.at)
-    ∙ sym (store_in-more c.args.net.now.cells c.args.words.now c.cell.ensures.net.of.cells.order c.loop-place.place r.found r.at)
 
 pub returns : goal.returns
 returns c =
-    let count = c.cells-place-end.ensures.count in
-    let past = c.loop-place-test.false in
-    c.loop-place.invariant ∙ ap (λ cells. store_in cells c.args.words.now) (take_all c.loop-place.place c.args.net.now.cells (omega arith))
+    let count = c.cells.ensures.count in
+    let all : take c.cells.result c.args.net.now.cells ≡ c.args.net.now.cells = take_all c.cells.result c.args.net.now.cells (omega arith) in
+    subst (λ (cells : List NetCell). IfOk c.front_store.result (λ store. store ≡ store_in cells c.args.words.now)) all c.front_store.ensures
