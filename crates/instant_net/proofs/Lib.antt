@@ -17,6 +17,7 @@ pub mod WordOrders
 pub mod WordValues
 pub mod StoreLookups
 pub mod TokenTells
+pub mod WordStores
 pub mod NetParts
 pub mod CellReads
 pub mod AskWalks

@@ -1,3 +1,4 @@
+//! Nets of programs worked out by hand.
 ghost use Rattle.std.specs.Prelude.{◌≡◌, ◌≤◌, IfOk, length, All};
 ghost use Rattle.std.specs.List.Sorted.{IsStrictlySortedBy};
 ghost use Rattle.agent_core.specs.Closures.{closure_cmp};
@@ -5,41 +6,48 @@ ghost use Rattle.agent_core.specs.Facts.{IsProgram};
 ghost use Rattle.agent_laws.specs.Laws.{AreClosures};
 
 mod fronts;
+mod making;
+mod reading;
+mod telling;
 
-use crate::collecting::net_cells;
-use crate::parts::{Atom, Atoms, LeafKind, NetGuard, NetLeaf};
-use crate::walking::net_parts;
-use crate::{NetFault, open_net};
 use agent_core::{CellDecl, Closure, Constraint, Levels, Name, Node, Program};
 use std::alloc::Global;
 use std::test::Fail;
-use token_system::{Births, Cell, CellName, Kind, Token};
+use token_system::{Births, Cell, Kind, Token};
+
+const SIGNAL: Cell = Cell {
+    kind: Kind::Signal,
+    lo: 0,
+    hi: 0,
+};
+
+/// The constraint of these tokens.
+fn all(alloc: Global, tokens: &[(u32, Token)]) -> Result<Constraint, Fail>
+    requires some { 1 ≤ length tokens.now }
+    requires few { length tokens.now ≤ 16 }
+{
+    Ok(Constraint::make(tokens.to_vec(alloc)?))
+}
 
 /// The constraint that this cell is on.
 fn on(alloc: Global, cell: u32) -> Result<Constraint, Fail> {
-    let mut list = Vec::new(alloc);
-    list.push((cell, Token::On))?;
-    Ok(Constraint::make(list))
+    all(alloc, &[(cell, Token::On)])
 }
 
-/// The program of these nodes over so many signals, some of them declared.
-fn over_signals(
+/// The program of these nodes over these cells, the first of them declared.
+fn over_cells(
     alloc: Global,
-    signals: u32,
+    kinds: &[Cell],
     declared: u32,
     nodes: Vec<Node>,
 ) -> Result<Program, Fail>
     ensures { IfOk result IsProgram }
 {
     let mut cells = Vec::new(alloc);
-    for _ in 0..signals {
+    for cell in kinds {
         cells.push(CellDecl {
             name: Name::make(b"a".to_vec(alloc)?),
-            cell: Cell {
-                kind: Kind::Signal,
-                lo: 0,
-                hi: 0,
-            },
+            cell: *cell,
         })?;
     }
     match Program::make(cells, declared, nodes) {
@@ -72,129 +80,4 @@ fn first_roots(alloc: Global, program: &Program) -> Result<Vec<Closure>, Fail>
         births: Births::make(Vec::new(alloc)),
     })?;
     Ok(roots)
-}
-
-/// `signal a; a || a`.
-fn twice(alloc: Global) -> Result<Program, Fail>
-    ensures { IfOk result IsProgram }
-{
-    let mut nodes = Vec::new(alloc);
-    nodes.push(Node::Par { left: 1, right: 2 })?;
-    nodes.push(Node::Tell(on(alloc, 0)?))?;
-    nodes.push(Node::Tell(on(alloc, 0)?))?;
-    over_signals(alloc, 1, 1, nodes)
-}
-
-/// `signal a, b; if a then if b else new signal s in {s || if s then b}`.
-fn nested(alloc: Global) -> Result<Program, Fail>
-    ensures { IfOk result IsProgram }
-{
-    let mut nodes = Vec::new(alloc);
-    nodes.push(Node::Then {
-        ask: on(alloc, 0)?,
-        body: 1,
-    })?;
-    nodes.push(Node::Else {
-        ask: on(alloc, 1)?,
-        body: 2,
-    })?;
-    nodes.push(Node::New { cell: 2, body: 3 })?;
-    nodes.push(Node::Par { left: 4, right: 5 })?;
-    nodes.push(Node::Tell(on(alloc, 2)?))?;
-    nodes.push(Node::Then {
-        ask: on(alloc, 2)?,
-        body: 6,
-    })?;
-    nodes.push(Node::Tell(on(alloc, 1)?))?;
-    over_signals(alloc, 3, 2, nodes)
-}
-
-/// Whether these atoms are that the one cell is on.
-fn is_on(atoms: &Atoms, cell: u32) -> bool {
-    atoms.list().len() == 1
-        && atoms.list()[0]
-            == Atom {
-                cell,
-                token: Token::On,
-            }
-}
-
-/// Whether this is a guard on the one cell being on.
-fn is_guard(
-    guard: &NetGuard,
-    strict: bool,
-    cell: u32,
-    above: Option<u32>,
-    first: u32,
-    past: u32,
-) -> bool {
-    guard.strict == strict
-        && is_on(&guard.ask, cell)
-        && guard.above == above
-        && guard.first == first
-        && guard.past == past
-}
-
-/// Whether this is a leaf that tells that the one cell is on.
-fn is_tell(leaf: &NetLeaf, cell: u32, last: u32) -> bool {
-    match &leaf.kind {
-        LeafKind::Tells(told) => is_on(told, cell) && leaf.last == Some(last),
-        _ => false,
-    }
-}
-
-#[test]
-fn two_tells_are_two_leaves_and_more_than_one(rt: HostRuntime) -> Result<(), Fail> {
-    let program = twice(rt.alloc())?;
-    let levels = rising_levels(rt.alloc(), &program)?;
-    let roots = first_roots(rt.alloc(), &program)?;
-    match open_net(rt.alloc(), &program, &levels, &roots, 7, 2) {
-        Ok(net) => assert_eq!(rt; (net.leaves(), net.instant()), (2, 7)),
-        Err(_) => return Err(Fail::from("no net")),
-    }
-    match open_net(rt.alloc(), &program, &levels, &roots, 7, 1) {
-        Ok(_) => return Err(Fail::from("a net above the limit")),
-        Err(fault) => assert_eq!(rt; fault, NetFault::NetFull { leaves: 2 }),
-    }
-    Ok(())
-}
-
-#[test]
-fn cells_are_the_declared_ones_and_then_the_local_one(rt: HostRuntime) -> Result<(), Fail> {
-    let program = nested(rt.alloc())?;
-    let levels = rising_levels(rt.alloc(), &program)?;
-    let roots = first_roots(rt.alloc(), &program)?;
-    let cells = net_cells(rt.alloc(), &program, &levels, &roots, 7)?;
-    let mut births = Vec::new(rt.alloc());
-    births.push(7)?;
-    let local = CellName::Local {
-        node: 2,
-        births: Births::make(births),
-    };
-    assert_eq!(rt; cells.len(), 3);
-    assert!(rt; cells[0].name == CellName::Declared(0) && cells[1].name == CellName::Declared(1));
-    assert!(rt; cells[2].name == local);
-    assert_eq!(rt;
-        (cells[0].stratum, cells[1].stratum, cells[2].stratum),
-        (0, 1, 2)
-    );
-    assert_eq!(rt; (cells[0].first, cells[1].first, cells[2].first), (0, 1, 2));
-    Ok(())
-}
-
-#[test]
-fn guards_name_the_one_above_and_leaves_the_last_one(rt: HostRuntime) -> Result<(), Fail> {
-    let program = nested(rt.alloc())?;
-    let levels = rising_levels(rt.alloc(), &program)?;
-    let roots = first_roots(rt.alloc(), &program)?;
-    let cells = net_cells(rt.alloc(), &program, &levels, &roots, 7)?;
-    let parts = net_parts(rt.alloc(), &program, &roots, 7, &cells)?;
-    assert_eq!(rt; parts.guards.len(), 3);
-    assert_eq!(rt; parts.leaves.len(), 2);
-    assert!(rt; is_guard(&parts.guards[0], false, 0, None, 0, 2));
-    assert!(rt; is_guard(&parts.guards[1], true, 1, Some(0), 0, 2));
-    assert!(rt; is_guard(&parts.guards[2], false, 2, Some(1), 1, 2));
-    assert!(rt; is_tell(&parts.leaves[0], 2, 1));
-    assert!(rt; is_tell(&parts.leaves[1], 1, 2));
-    Ok(())
 }
