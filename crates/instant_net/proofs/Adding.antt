@@ -2,10 +2,9 @@
 use Rattle.std.proofs.Common.{◌≡◌, ℕ, suc, ◌+◌, Bool, true, false, List, [], ◌∷◌, ◌++◌, length, map, set, get_or, take, Some, None, refl, sym, ap, ◌∙◌, subst, arith, length-append, inl, inr, ◌<◌, ◌≤◌}
 use Rattle.std.specs.Prelude.{Option, All, slice_get}
 use Rattle.std.proofs.lemmas.List.{append-nil, append_assoc, map-append, take_more, take_all}
-use Rattle.agent_core.specs.declared.node.Node.{Node}
 use Rattle.agent_core.specs.declared.node.Node.TheVariants as nodes
 use Rattle.agent_core.specs.declared.node.Closure.{Closure}
-use Rattle.agent_core.specs.Agents.{Agent, Ask, Skip, Tell, Then, Else, Par, New, Hence, Next, agent_of, agent_at}
+use Rattle.agent_core.specs.Agents.{Agent, Ask, Skip, Tell, Hence, Next, agent_at}
 use Rattle.agent_core.specs.Programs.{CoreProgram}
 use Rattle.agent_core.specs.Facts.{IsProgram}
 use Rattle.agent_core.specs.Leaves as core
@@ -15,7 +14,7 @@ use Rattle.instant_net.specs.declared.parts.NetGuard.{NetGuard}
 use Rattle.instant_net.specs.declared.parts.NetLeaf.{NetLeaf}
 use Rattle.instant_net.specs.declared.parts.LeafKind.{LeafKind}
 use Rattle.instant_net.specs.declared.parts.LeafKind.TheVariants as kinds
-use Rattle.instant_net.specs.NamedLeaves.{Named, Guard, Kind, Idle, Tells, StartsHence, StartsNext, Leaf}
+use Rattle.instant_net.specs.NamedLeaves.{Guard, Kind, Idle, Tells, StartsHence, StartsNext, Leaf}
 use Rattle.instant_net.specs.Nets.{AtomFits, named, named_guard, named_kind, atoms_of}
 use Rattle.instant_net.specs.Programs.{ask_named, guard_named, kind_named, leaf_named, root_leaves}
 use Rattle.instant_net.specs.Walks.{AreAtomsOf, IsBegun, IsEnded, Grown, none, leaf, under, beside, Adds}

@@ -2,7 +2,7 @@
 use Rattle.std.proofs.Common.{◌≡◌, ℕ, ◌+◌, ◌<◌, ◌≤◌, List, [], ◌∷◌, ◌++◌, length, take, drop, get_or, Some, Result, Ok, Err, IfOk, refl, sym, ap, ◌∙◌, subst, arith, ◌⊎◌, inl, inr, None}
 use Rattle.std.specs.Prelude.{Option, All, slice_get}
 use Rattle.std.specs.declared.cmp.Ordering.TheVariants.{Equal}
-use Rattle.std.proofs.lemmas.List.{append-nil, append_assoc, take_more, take_all, drop_more}
+use Rattle.std.proofs.lemmas.List.{append_assoc, take_more, take_all, drop_more}
 use Rattle.std.proofs.lemmas.List.Elements.{All-contains, All-push, All-nil}
 use Rattle.std.proofs.lemmas.Option.{slice_get_cases}
 use Rattle.token_system.specs.declared.cell.Cell.{Cell}
@@ -18,7 +18,6 @@ use Rattle.agent_core.specs.Scope.{TokenFits, AskFits}
 use Rattle.agent_core.proofs.OneStore.{Names-one}
 use Rattle.instant_net.specs.declared.parts.Atom.{Atom}
 use Rattle.instant_net.specs.declared.parts.NetCell.{NetCell}
-use Rattle.instant_net.specs.NamedLeaves.{Named}
 use Rattle.instant_net.specs.Nets.{AtomFits, named_at, named}
 use Rattle.instant_net.specs.Programs.{token_named, ask_named}
 use Rattle.instant_net.specs.Walks.{IsNamed, IsPlaceOf, IsAtomOf, AreAtomsOf}

@@ -1,21 +1,18 @@
 -- Cells in a row, and the cells of a net in their order.
-use Rattle.std.proofs.Common.{◌≡◌, ℕ, zero, suc, ◌+◌, ◌<◌, ◌≤◌, Bool, true, false, List, [], ◌∷◌, ◌++◌, length, map, get_or, Some, None, refl, sym, ap, ◌∙◌, subst, arith, length-append, ◌⊎◌, inl, inr}
-use Rattle.std.specs.Prelude.{Option, All, Contains, flat_map, slice_get, slice_index, slice_index_or, cond, nat_lt, ◌==◌, option_map}
+use Rattle.std.proofs.Common.{◌≡◌, ℕ, zero, suc, ◌+◌, ◌<◌, ◌≤◌, Bool, List, [], ◌∷◌, ◌++◌, length, get_or, Some, None, refl, sym, ap, ◌∙◌, subst, arith, length-append, ◌⊎◌, inl, inr}
+use Rattle.std.specs.Prelude.{All, Contains, flat_map, slice_get, slice_index, cond, ◌==◌}
 use Rattle.std.specs.Ordering.{nat_cmp}
-use Rattle.std.specs.declared.cmp.Ordering.{Ordering}
 use Rattle.std.specs.declared.cmp.Ordering.TheVariants.{Less, Equal, Greater}
 use Rattle.std.specs.List.Sorted.{IsStrictlySortedBy}
-use Rattle.std.specs.Cmp.Lexicographic.{slice_cmp}
 use Rattle.std.proofs.lemmas.Bool.{lt-ltb}
-use Rattle.std.proofs.lemmas.List.{map-append, append-nil}
+use Rattle.std.proofs.lemmas.List.{append-nil}
 use Rattle.std.proofs.lemmas.Grind.{flat_map-append}
-use Rattle.std.proofs.lemmas.List.Elements.{All-push, All-append, All-same, All-weaker, All-nil, recursion_from_All}
-use Rattle.std.proofs.lemmas.Option.{slice_get-map, get_or_from_slice_get, slice_get_cases}
+use Rattle.std.proofs.lemmas.List.Elements.{All-push, All-append, All-same, All-weaker, All-nil}
+use Rattle.std.proofs.lemmas.Option.{get_or_from_slice_get, slice_get_cases}
 use Rattle.token_system.specs.declared.name.CellName.{CellName}
 use Rattle.token_system.specs.declared.name.CellName.TheVariants.{Declared, Local}
 use Rattle.token_system.specs.Names.{name_cmp}
 use Rattle.agent_core.specs.declared.node.CellDecl.{CellDecl}
-use Rattle.agent_core.specs.declared.node.Node.{Node}
 use Rattle.agent_core.specs.Programs.{CoreProgram}
 use Rattle.agent_core.specs.Facts.{IsProgram}
 use Rattle.agent_core.specs.Names.{Names}
@@ -25,7 +22,7 @@ use Rattle.instant_net.specs.NamedLeaves.{Leaf, names_of}
 use Rattle.instant_net.specs.Opened.{IsCellOf, AreInOrder}
 use Rattle.instant_net.specs.Words.{AreLaidOut, hows, kind_hows}
 use Rattle.instant_net.specs.Collecting.{IsLocal, IsSpokenBy, cell_names, declared_names, IsRow, AreCellsFor}
-use Rattle.instant_net.proofs.Lists.{get-append, get-left, get-right}
+use Rattle.instant_net.proofs.Lists.{get-left, get-right}
 
 -- A ROW
 

@@ -1,12 +1,12 @@
 -- The path of a leaf holds each guard at or above its last one.
-use Rattle.std.proofs.Common.{◌≡◌, ℕ, zero, suc, ◌+◌, ◌<◌, ◌≤◌, List, [], ◌∷◌, ◌++◌, length, Some, None, refl, sym, ap, ◌∙◌, subst, arith}
+use Rattle.std.proofs.Common.{◌≡◌, ℕ, zero, suc, ◌+◌, List, [], ◌∷◌, ◌++◌, length, Some, refl, sym, ap, ◌∙◌, subst, arith}
 use Rattle.std.specs.Prelude.{Option, Contains, slice_get, slice_index_or}
 use Rattle.std.proofs.lemmas.List.Elements.{Contains-push, Contains-append_left}
 use Rattle.instant_net.specs.declared.parts.NetCell.{NetCell}
 use Rattle.instant_net.specs.declared.parts.NetGuard.{NetGuard}
 use Rattle.instant_net.specs.NamedLeaves.{Guard}
 use Rattle.instant_net.specs.Nets.{named_guard, path_to, paths_from, IsAtOrAbove, here, above, IsBelow}
-use Rattle.instant_net.proofs.Grown.{Agree, path-agree, agree-from, length-push, new_path}
+use Rattle.instant_net.proofs.Grown.{path-agree, agree-from, length-push, new_path}
 
 module _ (cells : List NetCell) where
   -- the path to a guard, where the one above it comes before it

@@ -1,6 +1,6 @@
 -- Stores rest for the leaves of a net where they rest for the leaves of its roots.
-use Rattle.std.proofs.Common.{◌≡◌, ℕ, suc, ◌+◌, Bool, true, false, ◌&&◌, not, List, [], ◌∷◌, ◌++◌, Some, map, refl, sym, ap, ◌∙◌, subst}
-use Rattle.std.specs.Prelude.{Option, All}
+use Rattle.std.proofs.Common.{◌≡◌, ℕ, suc, ◌+◌, Bool, ◌&&◌, not, List, [], ◌∷◌, ◌++◌, map, refl, sym, ap, ◌∙◌, subst}
+use Rattle.std.specs.Prelude.{Option}
 use Rattle.std.specs.List.{list_all}
 use Rattle.token_system.specs.Stores.{Valuation, store_entails}
 use Rattle.agent_core.specs.declared.node.CellDecl.{CellDecl}
@@ -23,7 +23,7 @@ use Rattle.agent_laws.proofs.Instance.{GuardFits}
 use Rattle.instant_net.specs.NamedLeaves.{Named, Guard, Leaf, told_by, holds, entails, free, asked, leaf_rests, leaves_rest}
 use Rattle.instant_net.specs.Nets.{Flat, net_leaves}
 use Rattle.instant_net.specs.Opened.{IsNetOf}
-use Rattle.instant_net.specs.Programs.{token_named, ask_named, guard_named, kind_named, leaf_named, root_leaves}
+use Rattle.instant_net.specs.Programs.{token_named, ask_named, guard_named, kind_named, leaf_named}
 
 -- what a leaf names fits
 abbrev pub LeafFits : CoreProgram → core.Leaf → Type 0

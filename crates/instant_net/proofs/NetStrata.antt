@@ -1,10 +1,9 @@
 -- The net of a program that a table stratifies is stratified.
-use Rattle.std.proofs.Common.{◌≡◌, ℕ, zero, suc, ◌+◌, ◌<◌, ◌≤◌, Bool, true, false, cond, List, [], ◌∷◌, ◌++◌, length, map, Some, None, refl, sym, ap, ◌∙◌, subst, arith, ◌⊎◌, inl, inr}
+use Rattle.std.proofs.Common.{◌≡◌, ℕ, zero, suc, ◌+◌, ◌<◌, ◌≤◌, Bool, true, false, cond, List, [], ◌∷◌, ◌++◌, length, map, Some, refl, sym, ap, ◌∙◌, subst, arith}
 use Rattle.std.specs.Prelude.{Option, All, Contains, slice_get, slice_index, slice_index_or, nat_lt, option_map, if◌then◌else◌}
-use Rattle.std.proofs.lemmas.List.Elements.{All-contains, Contains-append_left, Contains-append_right}
+use Rattle.std.proofs.lemmas.List.Elements.{All-contains, Contains-append_right}
 use Rattle.std.proofs.lemmas.Option.{slice_get-map}
 use Rattle.token_system.specs.declared.cell.Token.{Token}
-use Rattle.token_system.specs.declared.name.CellName.{CellName}
 use Rattle.token_system.specs.declared.name.CellName.TheVariants.{Declared}
 use Rattle.agent_core.specs.declared.node.CellDecl.{CellDecl}
 use Rattle.agent_core.specs.declared.node.Closure.{Closure}
@@ -18,22 +17,20 @@ use Rattle.agent_core.specs.Leaves as core
 use Rattle.agent_core.proofs.NewNodes.{new_of-found}
 use Rattle.agent_laws.specs.Laws.{AreClosures}
 use Rattle.agent_laws.specs.Ways.{new_cell, cell_named}
-use Rattle.agent_laws.proofs.Eachs.{Each-map, Each-both, Each-append, all_each, each_at}
+use Rattle.agent_laws.proofs.Eachs.{Each-map, Each-append, all_each, each_at}
 use Rattle.agent_laws.proofs.Instance.{GuardFits}
 use Rattle.agent_laws.proofs.LeafLevels.{Under, LeafStratified}
 use Rattle.agent_laws.proofs.Floors.{leaves_stratified}
 use Rattle.agent_laws.proofs.NodeFloors.{node_floors}
 use Rattle.instant_net.specs.declared.parts.Atom.{Atom}
 use Rattle.instant_net.specs.declared.parts.NetCell.{NetCell}
-use Rattle.instant_net.specs.declared.parts.NetGuard.{NetGuard}
-use Rattle.instant_net.specs.declared.parts.NetLeaf.{NetLeaf}
 use Rattle.instant_net.specs.declared.parts.LeafKind.{LeafKind}
 use Rattle.instant_net.specs.declared.parts.LeafKind.TheVariants as kinds
 use Rattle.instant_net.specs.NamedLeaves.{Named, Guard, Leaf, told_by}
-use Rattle.instant_net.specs.Nets.{Flat, named_at, named, named_guard, named_kind, named_leaf, net_leaves, path_to, paths_from, IsAtOrAbove, IsBelow, AtomFits, atoms_of}
+use Rattle.instant_net.specs.Nets.{Flat, named_at, named, named_guard, named_kind, named_leaf, net_leaves, atoms_of}
 use Rattle.instant_net.specs.Opened.{IsCellOf, IsNetOf}
 use Rattle.instant_net.specs.Outputs.{IsStratified}
-use Rattle.instant_net.specs.Programs.{token_named, ask_named, guard_named, kind_named, leaf_named, root_leaves}
+use Rattle.instant_net.specs.Programs.{token_named, ask_named, guard_named, kind_named, leaf_named}
 use Rattle.instant_net.proofs.Lists.{same-elements}
 use Rattle.instant_net.proofs.NetPaths.{above-in_path}
 use Rattle.instant_net.proofs.NetRests.{LeafFits, roots-fit}

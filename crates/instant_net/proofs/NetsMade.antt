@@ -1,8 +1,7 @@
 -- The net of the cells, guards and leaves that were made.
-use Rattle.std.proofs.Common.{◌≡◌, ℕ, ◌<◌, ◌≤◌, List, [], ◌∷◌, length, map, Some, None, refl, sym, ap, ◌∙◌, subst, arith, ◌⊎◌, inl, inr}
-use Rattle.std.specs.Prelude.{All, Contains, flat_map, slice_get}
+use Rattle.std.proofs.Common.{◌≡◌, ℕ, ◌<◌, ◌≤◌, List, [], length, None, refl, sym, ap, subst, arith, ◌⊎◌}
+use Rattle.std.specs.Prelude.{All, Contains, flat_map}
 use Rattle.std.proofs.lemmas.List.Elements.{All-weaker}
-use Rattle.token_system.specs.declared.name.CellName.{CellName}
 use Rattle.token_system.specs.declared.name.CellName.TheVariants.{Declared}
 use Rattle.agent_core.specs.declared.node.Closure.{Closure}
 use Rattle.agent_core.specs.Programs.{CoreProgram}
@@ -12,13 +11,13 @@ use Rattle.instant_net.specs.declared.parts.NetCell.{NetCell}
 use Rattle.instant_net.specs.declared.parts.NetGuard.{NetGuard}
 use Rattle.instant_net.specs.declared.parts.NetLeaf.{NetLeaf}
 use Rattle.instant_net.specs.NamedLeaves.{Leaf, names_of}
-use Rattle.instant_net.specs.Nets.{Flat, named_leaf, net_leaves, LeafIsWhole, paths_from}
+use Rattle.instant_net.specs.Nets.{Flat, named_leaf, net_leaves, LeafIsWhole}
 use Rattle.instant_net.specs.Opened.{IsCellOf, IsNetOf, IsNet, strata_of}
 use Rattle.instant_net.specs.Programs.{root_leaves}
 use Rattle.instant_net.specs.Walks.{IsNamed, Grown}
 use Rattle.instant_net.specs.Collecting.{AreCellsFor}
 use Rattle.instant_net.proofs.Counts.{length-map}
-use Rattle.instant_net.proofs.Grown.{read, grown-all, grown-guard, grown-leaf, grown-over}
+use Rattle.instant_net.proofs.Grown.{grown-all, grown-guard, grown-leaf, grown-over}
 use Rattle.instant_net.proofs.Lists.{All-by_get}
 
 -- the cells are those of their names

@@ -1,13 +1,13 @@
 -- The leaves of a node, by its kind and its parts.
-use Rattle.std.proofs.Common.{◌≡◌, ℕ, suc, ◌+◌, List, [], ◌∷◌, ◌++◌, Some, refl, sym, ap, ◌∙◌, ◌⊎◌, inl, inr}
+use Rattle.std.proofs.Common.{◌≡◌, ℕ, suc, ◌+◌, List, [], ◌∷◌, ◌++◌, Some, sym, ap, ◌∙◌, ◌⊎◌, inl, inr}
 use Rattle.std.specs.Prelude.{slice_get}
 use Rattle.agent_core.specs.declared.node.Node.{Node}
 use Rattle.agent_core.specs.declared.node.Node.TheVariants as nodes
-use Rattle.agent_core.specs.Agents.{Agent, Ask, Skip, Tell, Then, Else, Par, New, Hence, Next, agent_of, agent_at}
+use Rattle.agent_core.specs.Agents.{Agent, Ask, agent_of, agent_at}
 use Rattle.agent_core.specs.Programs.{CoreProgram}
 use Rattle.agent_core.specs.Facts.{IsProgram}
 use Rattle.agent_core.specs.Listing.{size}
-use Rattle.agent_core.specs.Leaves.{Guard, Asks, Denies, Leaf, leaf, leaves_of}
+use Rattle.agent_core.specs.Leaves.{Guard, Asks, Denies, Leaf, leaves_of}
 use Rattle.agent_core.proofs.Places.{IsNodeAt, node_of_listing}
 
 module _ (p : CoreProgram) (is : IsProgram p) (n : ℕ) where

@@ -1,15 +1,14 @@
 -- The names that leaves speak of, as they are collected.
-use Rattle.std.proofs.Common.{◌≡◌, ℕ, suc, ◌+◌, ◌<◌, ◌≤◌, Bool, true, false, List, [], ◌∷◌, ◌++◌, length, map, take, drop, get_or, Some, refl, sym, ap, ◌∙◌, subst, arith, ◌⊎◌, inl, inr, zero}
+use Rattle.std.proofs.Common.{◌≡◌, ℕ, suc, ◌+◌, ◌<◌, ◌≤◌, Bool, true, false, List, [], ◌∷◌, ◌++◌, length, map, get_or, Some, refl, sym, ap, ◌∙◌, subst, arith, ◌⊎◌, inl, inr, zero}
 use Rattle.std.specs.Prelude.{Option, All, Contains, flat_map, slice_get, nat_lt, if◌then◌else◌}
-use Rattle.std.proofs.lemmas.Bool.{ltb-true}
-use Rattle.std.proofs.lemmas.List.{append-nil, map-append, append_assoc, drop_more}
-use Rattle.std.proofs.lemmas.List.Elements.{All-contains, All-weaker, All-contains_itself, Contains-append_left, Contains-append_right, Contains-append_cases}
+use Rattle.std.proofs.lemmas.List.{append-nil, map-append}
+use Rattle.std.proofs.lemmas.List.Elements.{All-contains, All-weaker, All-contains_itself, Contains-append_left, Contains-append_right}
 use Rattle.std.proofs.lemmas.Grind.{flat_map-append}
 use Rattle.std.proofs.lemmas.Map.Views.{All-insert_key}
 use Rattle.std.specs.BTreeSet.{insert_key}
 use Rattle.token_system.specs.declared.cell.Token.{Token}
 use Rattle.token_system.specs.declared.name.CellName.{CellName}
-use Rattle.token_system.specs.declared.name.CellName.TheVariants.{Declared, Local}
+use Rattle.token_system.specs.declared.name.CellName.TheVariants.{Declared}
 use Rattle.token_system.specs.Names.{name_cmp}
 use Rattle.agent_core.specs.declared.node.Closure.{Closure}
 use Rattle.agent_core.specs.declared.node.CellDecl.{CellDecl}
@@ -21,9 +20,9 @@ use Rattle.agent_core.specs.Facts.{IsProgram}
 use Rattle.agent_core.specs.Listing.{size}
 use Rattle.agent_core.specs.Leaves as core
 use Rattle.agent_core.specs.Names.{Names, name_of, local_name, new_of}
-use Rattle.agent_core.specs.Scope.{TokenFits, AskFits}
-use Rattle.instant_net.specs.NamedLeaves.{Named, Guard, Kind, Leaf, told_by, names_of}
-use Rattle.instant_net.specs.Programs.{token_named, ask_named, guard_named, kind_named, leaf_named, root_leaves}
+use Rattle.agent_core.specs.Scope.{TokenFits}
+use Rattle.instant_net.specs.NamedLeaves.{Named, Guard, told_by, names_of}
+use Rattle.instant_net.specs.Programs.{token_named, ask_named, guard_named, leaf_named, root_leaves}
 use Rattle.instant_net.specs.Collecting.{IsLocal, IsSpokenBy, IsAskedBy, AddsAsked, AddsSpoken}
 use Rattle.instant_net.proofs.NodeLeaves.{below, agent-is, then-below, else-below, new-below, par-below}
 use Rattle.instant_net.proofs.Lists.{Contains-map}

@@ -2,7 +2,6 @@
 use Rattle.std.specs.Prelude.{◌≡◌, ◌⊎◌, ℕ, zero, suc, ◌<◌, List, [], ◌∷◌, ◌++◌, length, map, flat_map, All, Contains, Some, slice_get}
 use Rattle.token_system.specs.declared.name.CellName.{CellName}
 use Rattle.token_system.specs.declared.name.CellName.TheVariants.{Declared, Local}
-use Rattle.agent_core.specs.declared.node.Closure.{Closure}
 use Rattle.agent_core.specs.declared.node.CellDecl.{CellDecl}
 use Rattle.agent_core.specs.Agents.{Ask, agent_at}
 use Rattle.agent_core.specs.Programs.{CoreProgram}
@@ -12,7 +11,7 @@ use Rattle.agent_core.specs.Names.{Names}
 use Rattle.instant_net.specs.declared.parts.NetCell.{NetCell}
 use Rattle.instant_net.specs.NamedLeaves.{Leaf, names_of}
 use Rattle.instant_net.specs.Opened.{IsCellOf, AreInOrder}
-use Rattle.instant_net.specs.Programs.{ask_named, leaf_named, root_leaves}
+use Rattle.instant_net.specs.Programs.{ask_named, leaf_named}
 use Rattle.instant_net.specs.Words.{AreLaidOut, hows}
 
 -- the name is that of a local cell of the program

@@ -1,7 +1,5 @@
-use Rattle.std.proofs.Common.{◌≡◌, ℕ, Some, refl, sym, ap, ◌∙◌, arith}
-use Rattle.agent_core.specs.declared.node.Node.{Node}
-use Rattle.agent_core.specs.declared.node.Node.TheVariants as nodes
-use Rattle.instant_net.proofs.Counts.{HasPart, part-then, part-left, part-right, one-leaf, few_leaves, count-body, count-par, node-found}
+use Rattle.std.proofs.Common.{Some, ap, ◌∙◌, arith}
+use Rattle.instant_net.proofs.Counts.{part-then, part-left, part-right, one-leaf, few_leaves, count-body, count-par, node-found}
 use Rattle.instant_net.proofs.counting.+node_leaves.Goals as goal
 
 pub node_leaves-requires : goal.node_leaves-requires

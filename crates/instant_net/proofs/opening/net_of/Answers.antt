@@ -1,4 +1,4 @@
-use Rattle.std.proofs.Common.{None, [], List, All, refl, sym, subst, arith}
+use Rattle.std.proofs.Common.{None, [], List, All, sym, subst, arith}
 use Rattle.instant_net.specs.declared.parts.NetCell.{NetCell}
 use Rattle.instant_net.specs.Opened.{IsNetOf}
 use Rattle.instant_net.specs.Programs.{root_leaves}

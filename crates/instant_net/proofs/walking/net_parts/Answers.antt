@@ -1,5 +1,4 @@
-use Rattle.agent_laws.specs.Laws.{AreClosures}
-use Rattle.instant_net.proofs.Adding.{roots-none, roots-next, roots-all}
+use Rattle.instant_net.proofs.Adding.{roots-none, roots-next}
 use Rattle.instant_net.proofs.walking.net_parts.Goals as goal
 
 pub loop-root-init : goal.loop-root-init

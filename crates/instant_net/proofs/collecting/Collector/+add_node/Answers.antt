@@ -1,7 +1,7 @@
-use Rattle.std.proofs.Common.{◌≡◌, ℕ, List, [], ◌∷◌, ◌++◌, length, Some, refl, sym, ap, ◌∙◌, subst, arith}
+use Rattle.std.proofs.Common.{◌≡◌, ℕ, List, [], ◌∷◌, ◌++◌, Some, sym, ap, ◌∙◌, subst, arith}
 use Rattle.agent_core.specs.declared.node.Node.TheVariants as nodes
 use Rattle.agent_core.specs.Names.{IsClosure}
-use Rattle.agent_core.proofs.RestTests.{node_found, own_ask_fits, left_of, right_of, then_body, else_body, new_body}
+use Rattle.agent_core.proofs.RestTests.{node_found, own_ask_fits, left_of, right_of, new_body}
 use Rattle.instant_net.specs.Collecting.{AddsAsked, AddsSpoken}
 use Rattle.instant_net.proofs.Atoms.{if_ok}
 use Rattle.instant_net.proofs.SpokenNames.{spoken-none, spoken-tell, spoken-body, spoken-new, spoken-par}

@@ -1,4 +1,3 @@
-use Rattle.std.proofs.Common.{sym, subst}
 use Rattle.std.proofs.lemmas.Map.Views.{All-turn}
 use Rattle.token_system.specs.declared.name.CellName.{CellName}
 use Rattle.instant_net.specs.Collecting.{IsLocal}
