@@ -1,28 +1,22 @@
 -- What a pass over the leaves of a net does, leaf by leaf.
-use Rattle.std.proofs.Common.{◌≡◌, ◌⊎◌, inl, inr, ℕ, zero, suc, ◌+◌, ◌<◌, ◌≤◌, Bool, true, false, ◌&&◌, not, cond, List, [], ◌∷◌, length, get_or, Some, None, IfSome, refl, sym, ap, ◌∙◌, subst, arith}
-use Rattle.std.specs.Prelude.{Option, IsTrue, All, Contains, slice_get, nat_lt, nat_le}
-use Rattle.std.specs.FinMap.{get}
+use Rattle.std.proofs.Common.{◌≡◌, ◌⊎◌, inl, inr, ℕ, zero, suc, ◌+◌, ◌<◌, ◌≤◌, Bool, true, false, ◌&&◌, not, cond, List, [], ◌∷◌, length, get_or, Some, None, refl, sym, ap, ◌∙◌, subst, arith}
+use Rattle.std.specs.Prelude.{Option, IsTrue, All, slice_get, nat_lt}
 use Rattle.std.proofs.lemmas.Bool.Decides.{nat_tests}
 use Rattle.std.proofs.lemmas.Option.{slice_get_cases, slice_get_within}
-use Rattle.token_system.specs.declared.cell.Value.{Value}
-use Rattle.token_system.specs.declared.name.CellName.{CellName}
-use Rattle.token_system.specs.Stores.{Valuation, IsKeptFor}
+use Rattle.token_system.specs.Stores.{Valuation}
 use Rattle.token_system.proofs.Alike.{true_false}
 use Rattle.agent_core.specs.Strata.{Each}
 use Rattle.agent_core.proofs.Bools.{first_of_both, second_of_both}
 use Rattle.agent_laws.proofs.Eachs.{all_each, each_all, each_at}
 use Rattle.instant_net.specs.declared.parts.Atom.{Atom}
-use Rattle.instant_net.specs.declared.parts.NetCell.{NetCell}
 use Rattle.instant_net.specs.declared.parts.NetLeaf.{NetLeaf}
 use Rattle.instant_net.specs.NamedLeaves.{entails, runs, tell_named}
 use Rattle.instant_net.specs.Nets.{Flat, named, named_leaf, AtomFits, LeafIsWhole, atoms_of}
 use Rattle.instant_net.specs.Opened.{IsNet}
-use Rattle.instant_net.specs.Outputs.{IsStoreOf, IsOutput, IsStratified}
+use Rattle.instant_net.specs.Outputs.{IsStoreOf}
 use Rattle.instant_net.specs.Readers.{least_stratum, tells_of}
-use Rattle.instant_net.specs.Words.{value_in, store_in, AreWords}
-use Rattle.instant_net.proofs.Lists.{same-elements}
-use Rattle.instant_net.proofs.StoreLookups.{HasNone, kept, kept-IsKeptFor, cell_named_or_none, get-cell, get-none}
-use Rattle.instant_net.proofs.TokenTells.{value_of_cell}
+use Rattle.instant_net.specs.Words.{store_in, AreWords}
+use Rattle.instant_net.proofs.WordStores.{words-store}
 use Rattle.settle.specs.Ways.{IsOnWay, Advances, has_told, is_upto, is_due, untold}
 use Rattle.settle.proofs.NetTells.{NamedFits, entails-above, named-fits, tell-all}
 use Rattle.settle.proofs.NetSystem.{level_or, level_of, tells, each-by_get}
@@ -91,23 +85,6 @@ untold-less net u w (x ∷ ls) (suc n) l h at e f =
     go false false g le = omega arith
 
 module _ (net : Flat) (is : IsNet net) where
-  -- the store that words are is one of the net's cells
-  pub words-store : (words : List ℕ) → AreWords net.cells words → IsStoreOf net.cells (store_in net.cells words)
-  words-store words are n v e = go (cell_named_or_none net.cells n)
-    where
-      kept_one : (c : NetCell) (o : Option Value) → IfSome o (IsKeptFor c.cell) → o ≡ Some v → IsKeptFor c.cell v
-      kept_one c o h s = subst (λ (x : Option Value). IfSome x (IsKeptFor c.cell)) s h
-
-      go : ((i : ℕ) × (c : NetCell) × (slice_get net.cells i ≡ Some c) × (c.name ≡ n)) ⊎ HasNone net.cells n → (c : NetCell) × Contains net.cells c × (c.name ≡ n) × IsKeptFor c.cell v
-      go (inr none) = absurd (let f : None ≡ Some v = sym (get-none net.cells words n none) ∙ e in cc)
-      go (inl (i, c, at, same)) = (
-        c,
-        same-elements net.cells c i at,
-        same,
-        kept_one c (kept c.cell (value_in words c)) (kept-IsKeptFor c.cell (value_in words c) (value_of_cell net.cells is.of.cells.laid_out words are i c at))
-            (sym (get-cell net.cells words is.of.cells.order i c at) ∙ ap (get (store_in net.cells words)) same ∙ e),
-      )
-
   leaf-fits : (n : ℕ) (l : NetLeaf) → slice_get net.leaves n ≡ Some l → Each (NamedFits net.cells) (tells net l)
   leaf-fits n l at = named-fits net.cells (atoms_of l.kind) (all_each (AtomFits net.cells) (atoms_of l.kind) (each_at (LeafIsWhole net) net.leaves n l (all_each (LeafIsWhole net) net.leaves is.of.whole.leaves) at).0)
 

@@ -3,13 +3,26 @@ ghost use Rattle.std.specs.List.Sorted.{IsStrictlySortedBy};
 ghost use Rattle.agent_core.specs.Closures.{closure_cmp};
 ghost use Rattle.agent_core.specs.Facts.{IsProgram};
 ghost use Rattle.agent_laws.specs.Laws.{AreClosures};
+ghost use Rattle.instant_net.specs.Words.{AreWords};
 
-use crate::settle;
+use crate::{settle, settle_stratum};
 use agent_core::{CellDecl, Closure, Constraint, Levels, Name, Node, Program};
-use instant_net::{open_net, open_words, words_store};
+use instant_net::{Net, Words, open_net, open_words, words_store};
 use std::alloc::Global;
 use std::test::Fail;
 use token_system::{Births, Cell, CellName, Kind, Store, Token, Value};
+
+const SIGNAL: Cell = Cell {
+    kind: Kind::Signal,
+    lo: 0,
+    hi: 0,
+};
+
+const UP_TO_SEVEN: Cell = Cell {
+    kind: Kind::Number,
+    lo: 0,
+    hi: 7,
+};
 
 /// The constraint of this one token of the cell.
 fn one(alloc: Global, cell: u32, token: Token) -> Result<Constraint, Fail> {
@@ -23,18 +36,23 @@ fn on(alloc: Global, cell: u32) -> Result<Constraint, Fail> {
     one(alloc, cell, Token::On)
 }
 
-/// The program of these nodes over so many declared cells, all like this one.
-fn over_cells(alloc: Global, cell: Cell, count: u32, nodes: Vec<Node>) -> Result<Program, Fail>
+/// The program of these nodes over these cells, the first of them declared.
+fn over_cells(
+    alloc: Global,
+    kinds: &[Cell],
+    declared: u32,
+    nodes: Vec<Node>,
+) -> Result<Program, Fail>
     ensures { IfOk result IsProgram }
 {
     let mut cells = Vec::new(alloc);
-    for _ in 0..count {
+    for cell in kinds {
         cells.push(CellDecl {
             name: Name::make(b"a".to_vec(alloc)?),
-            cell,
+            cell: *cell,
         })?;
     }
-    match Program::make(cells, count, nodes) {
+    match Program::make(cells, declared, nodes) {
         Some(program) => Ok(program),
         None => Err(Fail::from("not a program")),
     }
@@ -44,12 +62,8 @@ fn over_cells(alloc: Global, cell: Cell, count: u32, nodes: Vec<Node>) -> Result
 fn over_signals(alloc: Global, count: u32, nodes: Vec<Node>) -> Result<Program, Fail>
     ensures { IfOk result IsProgram }
 {
-    let signal = Cell {
-        kind: Kind::Signal,
-        lo: 0,
-        hi: 0,
-    };
-    over_cells(alloc, signal, count, nodes)
+    let kinds = vec![in alloc; SIGNAL; count as usize]?;
+    over_cells(alloc, &kinds, count, nodes)
 }
 
 /// Levels 0, 1, 2 and so on, one for each cell.
@@ -78,9 +92,10 @@ fn first_roots(alloc: Global, program: &Program) -> Result<Vec<Closure>, Fail>
     Ok(roots)
 }
 
-/// The store that the first instant ends in, where the input tells nothing.
-fn settled(alloc: Global, program: &Program) -> Result<Store, Fail>
+/// The net of the first instant, and the words of which nothing is told.
+fn opened(alloc: Global, program: &Program) -> Result<(Net, Words), Fail>
     requires { IsProgram program.now }
+    ensures { IfOk result (λ opened. AreWords opened.0.cells opened.1) }
 {
     let levels = rising_levels(alloc, program)?;
     let roots = first_roots(alloc, program)?;
@@ -88,7 +103,15 @@ fn settled(alloc: Global, program: &Program) -> Result<Store, Fail>
         Ok(net) => net,
         Err(_) => return Err(Fail::from("no net")),
     };
-    let mut words = open_words(alloc, &net, &Store::new(alloc))?;
+    let words = open_words(alloc, &net, &Store::new(alloc))?;
+    Ok((net, words))
+}
+
+/// The store that the first instant ends in, where the input tells nothing.
+fn settled(alloc: Global, program: &Program) -> Result<Store, Fail>
+    requires { IsProgram program.now }
+{
+    let (net, mut words) = opened(alloc, program)?;
     settle(&net, &mut words, 0);
     Ok(words_store(alloc, &net, &words)?)
 }
@@ -208,22 +231,86 @@ fn a_chain_is_told_to_its_end(rt: HostRuntime) -> Result<(), Fail> {
     Ok(())
 }
 
-/// `number n in 0..9; n >= 5 || n <= 3`: a clash.
+/// `int n in 0..7; n >= 5 || n <= 3`: a clash.
 #[test]
 fn bounds_that_cross_are_a_clash(rt: HostRuntime) -> Result<(), Fail> {
     let mut nodes = Vec::new(rt.alloc());
     nodes.push(Node::Par { left: 1, right: 2 })?;
     nodes.push(Node::Tell(one(rt.alloc(), 0, Token::AtLeast(5))?))?;
     nodes.push(Node::Tell(one(rt.alloc(), 0, Token::AtMost(3))?))?;
-    let number = Cell {
-        kind: Kind::Number,
-        lo: 0,
-        hi: 9,
+    let program = over_cells(rt.alloc(), &[UP_TO_SEVEN], 1, nodes)?;
+    let store = settled(rt.alloc(), &program)?;
+    assert_eq!(rt; store.get(&CellName::Declared(0)), Some(Value::Clash));
+    Ok(())
+}
+
+/// `int n in 0..7; signal a; n >= 5 || {n <= 3 || if n >= 7 else a}`: the clash of n is that n is 7 or more, too.
+#[test]
+fn a_clash_forbids_a_default(rt: HostRuntime) -> Result<(), Fail> {
+    let mut nodes = Vec::new(rt.alloc());
+    nodes.push(Node::Par { left: 1, right: 2 })?;
+    nodes.push(Node::Tell(one(rt.alloc(), 0, Token::AtLeast(5))?))?;
+    nodes.push(Node::Par { left: 3, right: 4 })?;
+    nodes.push(Node::Tell(one(rt.alloc(), 0, Token::AtMost(3))?))?;
+    nodes.push(Node::Else {
+        ask: one(rt.alloc(), 0, Token::AtLeast(7))?,
+        body: 5,
+    })?;
+    nodes.push(Node::Tell(on(rt.alloc(), 1)?))?;
+    let program = over_cells(rt.alloc(), &[UP_TO_SEVEN, SIGNAL], 2, nodes)?;
+    let store = settled(rt.alloc(), &program)?;
+    assert_eq!(rt; store.get(&CellName::Declared(0)), Some(Value::Clash));
+    assert_eq!(rt; store.len(), 1);
+    Ok(())
+}
+
+/// `int n in 0..7; n >= 5 || new int m in 0..7 in {if n >= 4 then m <= 2 || if n >= 6 else m >= 1}`: n is 5 to 7, which
+/// is 4 or more and not yet 6 or more, so m is 1 to 2.
+#[test]
+fn a_local_number_is_bounded_from_both_sides(rt: HostRuntime) -> Result<(), Fail> {
+    let mut nodes = Vec::new(rt.alloc());
+    nodes.push(Node::Par { left: 1, right: 2 })?;
+    nodes.push(Node::Tell(one(rt.alloc(), 0, Token::AtLeast(5))?))?;
+    nodes.push(Node::New { cell: 1, body: 3 })?;
+    nodes.push(Node::Par { left: 4, right: 6 })?;
+    nodes.push(Node::Then {
+        ask: one(rt.alloc(), 0, Token::AtLeast(4))?,
+        body: 5,
+    })?;
+    nodes.push(Node::Tell(one(rt.alloc(), 1, Token::AtMost(2))?))?;
+    nodes.push(Node::Else {
+        ask: one(rt.alloc(), 0, Token::AtLeast(6))?,
+        body: 7,
+    })?;
+    nodes.push(Node::Tell(one(rt.alloc(), 1, Token::AtLeast(1))?))?;
+    let program = over_cells(rt.alloc(), &[UP_TO_SEVEN, UP_TO_SEVEN], 1, nodes)?;
+    let store = settled(rt.alloc(), &program)?;
+    let n = CellName::Declared(0);
+    let m = CellName::Local {
+        node: 2,
+        births: Births::make([0].to_vec(rt.alloc())?),
     };
-    let store = settled(rt.alloc(), &over_cells(rt.alloc(), number, 1, nodes)?)?;
-    match store.get(&CellName::Declared(0)) {
-        Some(value) => assert!(rt; value == Value::Clash),
-        None => return Err(Fail::from("nothing is told")),
-    }
+    assert_eq!(rt; store.get(&n), Some(Value::Number { lo: 5, hi: 7 }));
+    assert_eq!(rt; store.get(&m), Some(Value::Number { lo: 1, hi: 2 }));
+    assert_eq!(rt; store.len(), 2);
+    Ok(())
+}
+
+/// `signal a, b, c; if a else b || if b else c`, where a, b and c are strata 0, 1 and 2: nothing is told in stratum 0, b
+/// in stratum 1, and nothing more in stratum 2.
+#[test]
+fn each_stratum_is_completed_after_those_below_it(rt: HostRuntime) -> Result<(), Fail> {
+    let mut nodes = Vec::new(rt.alloc());
+    nodes.push(Node::Par { left: 1, right: 3 })?;
+    push_else(rt.alloc(), &mut nodes, 0, 2, 1)?;
+    push_else(rt.alloc(), &mut nodes, 1, 4, 2)?;
+    let program = over_signals(rt.alloc(), 3, nodes)?;
+    let (net, mut words) = opened(rt.alloc(), &program)?;
+    settle_stratum(&net, &mut words, 0);
+    assert_eq!(rt; words.list(), [0, 0, 0].as_slice());
+    settle_stratum(&net, &mut words, 1);
+    assert_eq!(rt; words.list(), [0, 1, 0].as_slice());
+    settle(&net, &mut words, 2);
+    assert_eq!(rt; words.list(), [0, 1, 0].as_slice());
     Ok(())
 }

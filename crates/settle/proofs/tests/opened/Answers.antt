@@ -1,9 +1,8 @@
 use Rattle.std.proofs.Common.{◌≡◌, Some, None, sym, subst, ◌∙◌}
-use Rattle.std.specs.FinMap.{empty, get-empty}
+use Rattle.std.specs.FinMap.{get-empty}
 use Rattle.token_system.specs.Names.{name_cmp}
-use Rattle.token_system.specs.Stores.{Valuation}
 use Rattle.instant_net.specs.Outputs.{IsStoreOf}
-use Rattle.settle.proofs.tests.settled.Goals as goal
+use Rattle.settle.proofs.tests.opened.Goals as goal
 
 pub open_words-requires : goal.open_words-requires
 open_words-requires c =
