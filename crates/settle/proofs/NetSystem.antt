@@ -1,6 +1,6 @@
 -- The leaves of a stratified net and the stores of its cells are a system of the fixpoint's kind.
-use Rattle.std.proofs.Common.{◌≡◌, ◌⊎◌, inl, inr, ℕ, zero, suc, ◌+◌, ◌<◌, ◌≤◌, Bool, true, false, ◌&&◌, not, cond, List, [], ◌∷◌, ◌++◌, length, get_or, Some, None, refl, sym, ap, ◌∙◌, subst, arith}
-use Rattle.std.specs.Prelude.{Option, IsTrue, All, Contains, slice_get, slice_index, min, max, if◌then◌else◌}
+use Rattle.std.proofs.Common.{◌≡◌, ◌⊎◌, inl, inr, ℕ, zero, suc, ◌+◌, ◌<◌, ◌≤◌, Bool, true, false, not, cond, List, [], ◌∷◌, length, get_or, Some, None, refl, sym, ap, ◌∙◌, subst, arith}
+use Rattle.std.specs.Prelude.{Option, IsTrue, Contains, slice_get, slice_index, if◌then◌else◌}
 use Rattle.std.specs.List.{list_all}
 use Rattle.std.proofs.lemmas.Option.{slice_get_cases}
 use Rattle.std.proofs.lemmas.List.Elements.{All-contains}
@@ -25,7 +25,7 @@ use Rattle.instant_net.proofs.Lists.{same-elements}
 use Rattle.instant_net.proofs.NetOutputs as outputs
 use Rattle.instant_net.proofs.NetPaths.{path-of}
 use Rattle.settle.specs.Ways.{BelowUpto}
-use Rattle.settle.proofs.NetTells.{NamedFits, TellsAll, holds-up, entails-up, entails-above, named-each, named-fits, tell-all}
+use Rattle.settle.proofs.NetTells.{NamedFits, holds-up, entails-up, entails-above, named-each, named-fits, tell-all}
 
 -- LISTS
 

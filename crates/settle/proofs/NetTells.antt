@@ -1,10 +1,8 @@
 -- What telling tokens of a net's cells does to their store: it is the least above that entails them, cell by cell.
-use Rattle.std.proofs.Common.{◌≡◌, ◌≢◌, ◌⊎◌, inl, inr, ℕ, Bool, true, false, ◌&&◌, List, [], ◌∷◌, ◌++◌, Some, None, refl, sym, ap, ◌∙◌, subst, arith}
-use Rattle.std.specs.Prelude.{Option, IsTrue, All, Contains, slice_get}
-use Rattle.std.specs.FinMap.{get}
+use Rattle.std.proofs.Common.{◌≡◌, ◌≢◌, ◌⊎◌, inl, inr, List, [], ◌∷◌, ◌++◌, Some, refl, sym, ◌∙◌, subst}
+use Rattle.std.specs.Prelude.{Option, IsTrue, Contains, slice_get}
 use Rattle.token_system.specs.declared.cell.Cell.{Cell}
 use Rattle.token_system.specs.declared.cell.Token.{Token}
-use Rattle.token_system.specs.declared.cell.Value.{Value}
 use Rattle.token_system.specs.declared.name.CellName.{CellName}
 use Rattle.token_system.specs.Tokens.{Fits}
 use Rattle.token_system.specs.Stores.{Valuation, store_entails, told, IsKeptFor}

@@ -1,25 +1,23 @@
 -- How a stratified net is completed to its output: what a loop over strata and a pass over leaves need to know.
-use Rattle.std.proofs.Common.{◌≡◌, ◌⊎◌, inl, inr, ℕ, zero, suc, ◌+◌, ◌<◌, ◌≤◌, Bool, true, false, ◌&&◌, not, cond, List, [], ◌∷◌, map, Some, None, refl, sym, ap, ◌∙◌, subst, arith}
-use Rattle.std.specs.Prelude.{Option, IsTrue, slice_get}
+use Rattle.std.proofs.Common.{◌≡◌, ℕ, suc, ◌≤◌, Bool, true, false, ◌&&◌, not, cond, List, [], ◌∷◌, map, Some, refl, sym, ap, ◌∙◌, arith}
+use Rattle.std.specs.Prelude.{IsTrue, slice_get}
 use Rattle.std.specs.List.{list_all}
 use Rattle.token_system.specs.Stores.{Valuation}
 use Rattle.token_system.proofs.Alike.{true_false}
 use Rattle.agent_core.specs.Rests.{◌⇒◌}
 use Rattle.agent_core.specs.Strata.{Each}
 use Rattle.agent_core.proofs.Bools.{both, first_of_both, second_of_both, implied, by_premise}
-use Rattle.agent_laws.proofs.Eachs.{Each-map, each_at, each_true, true_each}
+use Rattle.agent_laws.proofs.Eachs.{each_at, each_true, true_each}
 use Rattle.agent_laws.proofs.System.{System}
 use Rattle.agent_laws.proofs.Fixpoint as flat
 use Rattle.agent_laws.proofs.Settling as settling
-use Rattle.instant_net.specs.declared.parts.Atom.{Atom}
 use Rattle.instant_net.specs.declared.parts.NetLeaf.{NetLeaf}
 use Rattle.instant_net.specs.declared.parts.LeafKind.{LeafKind}
 use Rattle.instant_net.specs.declared.parts.LeafKind.TheVariants as kinds
-use Rattle.instant_net.specs.NamedLeaves.{Named, Guard, Leaf, told_by, entails, asked, free, allowed, allows, runs, leaf_rests, leaves_rest, tell_named}
+use Rattle.instant_net.specs.NamedLeaves.{Guard, told_by, entails, asked, free, allowed, allows, runs, leaf_rests, leaves_rest, tell_named}
 use Rattle.instant_net.specs.Nets.{Flat, named, named_kind, named_leaf, net_leaves, atoms_of}
 use Rattle.instant_net.specs.Opened.{IsNet}
-use Rattle.instant_net.specs.Outputs.{IsStoreOf, Below, IsOutput, IsStratified}
-use Rattle.instant_net.specs.Readers.{least_stratum}
+use Rattle.instant_net.specs.Outputs.{Below, IsOutput, IsStratified}
 use Rattle.settle.specs.Ways.{BelowUpto, IsOnWay, has_told}
 use Rattle.settle.proofs.NetSystem.{level_of, tells, LeafStands, system, leaves-stand, each-by_get, of_upto}
 

@@ -1,5 +1,5 @@
 -- Stores on the way from an input to an output of a net, stratum by stratum, and which leaves are still to tell. This project's own.
-use Rattle.std.specs.Prelude.{◌≡◌, ℕ, ◌+◌, ◌<◌, Bool, false, ◌&&◌, not, cond, List, [], ◌∷◌, Contains, IsTrue, Option, None, Some, nat_le}
+use Rattle.std.specs.Prelude.{ℕ, ◌+◌, ◌<◌, Bool, false, ◌&&◌, not, cond, List, [], ◌∷◌, Contains, IsTrue, Option, None, Some, nat_le}
 use Rattle.token_system.specs.declared.cell.Token.{Token}
 use Rattle.token_system.specs.Tokens.{Fits}
 use Rattle.token_system.specs.Stores.{Valuation, store_entails}

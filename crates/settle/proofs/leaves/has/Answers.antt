@@ -1,4 +1,4 @@
-use Rattle.std.proofs.Common.{◌≡◌, sym, ap, ◌∙◌}
+use Rattle.std.proofs.Common.{sym, ap, ◌∙◌}
 use Rattle.token_system.specs.Values.{value_entails}
 use Rattle.instant_net.specs.Words.{store_in}
 use Rattle.instant_net.proofs.NetParts.{cell_there}

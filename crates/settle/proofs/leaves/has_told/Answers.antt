@@ -1,4 +1,4 @@
-use Rattle.std.proofs.Common.{◌≡◌, refl, sym, ap, ◌∙◌}
+use Rattle.std.proofs.Common.{ap, ◌∙◌}
 use Rattle.token_system.specs.declared.cell.Token.TheVariants.{On}
 use Rattle.instant_net.specs.NamedLeaves.{entails}
 use Rattle.instant_net.specs.Nets.{named}
