@@ -1,0 +1,2 @@
+pub mod CoreTexts
+pub mod Beginnings
