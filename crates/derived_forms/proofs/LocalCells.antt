@@ -12,7 +12,7 @@ use Rattle.derived_forms.proofs.FitPhrases.{constraint_fit, domain_fit, unit_fit
 use Rattle.derived_forms.proofs.CoreTrees.{agent_of}
 
 -- the cells of the new nodes of an agent
-abbrev news : core.Agent → List ℕ
+abbrev pub news : core.Agent → List ℕ
 news core.Skip = []
 news (core.Tell c) = []
 news (core.Then c a) = news a
@@ -22,7 +22,7 @@ news (core.New cell a) = cell ∷ news a
 news (core.Hence a) = news a
 news (core.Next a) = news a
 
-news_listed : (n : ℕ) (a : core.Agent) → filter_map cell_of (listing n a) ≡ news a
+pub news_listed : (n : ℕ) (a : core.Agent) → filter_map cell_of (listing n a) ≡ news a
 news_listed n core.Skip = refl
 news_listed n (core.Tell c) = refl
 news_listed n (core.Then c a) = news_listed (suc n) a

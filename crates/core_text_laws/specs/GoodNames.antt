@@ -1,0 +1,35 @@
+-- Programs whose core texts can be read back: each name can be written, and no two in one scope are alike. This project's own.
+use Rattle.std.specs.Prelude.{◌≡◌, ◌⊎◌, ℕ, ◌<◌, ◌≤◌, List, [], ◌∷◌, length, Some, slice_get}
+use Rattle.program_lexemes.specs.declared.bytes.TextForm.TheVariants as form
+use Rattle.program_lexemes.specs.declared.lexer.LexKind.TheVariants as kind
+use Rattle.program_lexemes.specs.Forms.{kind_of}
+use Rattle.agent_core.specs.declared.node.CellDecl.{CellDecl}
+use Rattle.agent_core.specs.Agents.{Agent, Skip, Tell, Then, Else, Par, New, Hence, Next, agent_at}
+use Rattle.agent_core.specs.Programs.{CoreProgram}
+use Rattle.agent_core.specs.Facts.{IsAmong}
+use Rattle.core_text.specs.CoreTexts.{name_at}
+
+-- a name of a core text: a word that is no keyword, or a dollar and one to nine digits; of 32 bytes at most
+pub record IsCoreName (name : List ℕ) : Type 0 where
+  pub is : kind_of form.Core name ≡ Some kind.Name
+  pub short : length name ≤ 32
+
+-- the cell is declared, or one of these local ones
+abbrev pub IsVisible : CoreProgram → List ℕ → ℕ → Type 0
+IsVisible p locals c = (c < p.declared) ⊎ IsAmong locals c
+
+-- no cell in scope around a new node has the name of its cell
+abbrev pub AreFresh : CoreProgram → List ℕ → Agent → Type 0
+AreFresh p locals Skip = Unit {0}
+AreFresh p locals (Tell ask) = Unit {0}
+AreFresh p locals (Then ask a) = AreFresh p locals a
+AreFresh p locals (Else ask a) = AreFresh p locals a
+AreFresh p locals (Par a b) = AreFresh p locals a × AreFresh p locals b
+AreFresh p locals (New cell a) = ((c : ℕ) → IsVisible p locals c → name_at p.cells c ≡ name_at p.cells cell → ⊥) × AreFresh p (cell ∷ locals) a
+AreFresh p locals (Hence a) = AreFresh p locals a
+AreFresh p locals (Next a) = AreFresh p locals a
+
+pub record HasGoodNames (p : CoreProgram) : Type 0 where
+  pub names : (n : ℕ) (d : CellDecl) → slice_get p.cells n ≡ Some d → IsCoreName d.name
+  pub declared : (c d : ℕ) → c < d → d < p.declared → name_at p.cells c ≡ name_at p.cells d → ⊥
+  pub locals : AreFresh p [] (agent_at p.nodes 0)
