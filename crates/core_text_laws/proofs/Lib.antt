@@ -2,6 +2,7 @@ pub mod Sitting
 pub mod CorePhrases
 pub mod CoreCells
 pub mod CoreTrees
+pub mod CoreNames
 pub mod Written
 pub mod CoreWords
 pub mod CoreAgents

@@ -29,6 +29,7 @@ use Rattle.core_text_laws.specs.Spelled.{IsSpelled}
 use Rattle.core_text_laws.proofs.CorePhrases.{as_unit_phrase, local_phrase, local_at, agent_phrase, decl_phrase, decls_phrase, program_phrase}
 use Rattle.core_text_laws.proofs.CoreCells.{program_declared, program_seen}
 use Rattle.core_text_laws.proofs.CoreTrees.{program_kept}
+use Rattle.core_text_laws.proofs.CoreNames.{program_clean}
 use Rattle.core_text_laws.proofs.Written.{written_lexed}
 use Rattle.core_text_laws.proofs.CoreAgents.{text_says}
 
@@ -81,6 +82,7 @@ spelled p is good =
         allowed = decls_are_core (take p.declared p.cells) (g.Runs (agent_phrase p.cells (agent_at p.nodes 0))) ∙ agent_is_core p.cells (agent_at p.nodes 0);
         spelled = lexed.terms_are;
       };
+      named = program_clean p good is;
       cells = program_seen p is good;
       declared = program_declared p is;
       tree = program_kept p good is;
