@@ -1,0 +1,45 @@
+//! Closures in their order.
+ghost use Rattle.std.specs.Prelude.{◌≡◌, ◌++◌, IfOk, OnOk};
+ghost use Rattle.agent_core.specs.Closures.{closure_cmp, sorted};
+
+use agent_core::Closure;
+use std::cmp::Ordering;
+use token_system::Memory;
+
+/// The order of closures: by node, and then by births.
+fn closure_order(a: &Closure, b: &Closure) -> Ordering
+    ensures { result ≡ closure_cmp a.now b.now }
+{
+    a.node
+        .cmp(&b.node)
+        .then(a.births.list().cmp(b.births.list()))
+}
+
+/// An equal closure.
+pub(crate) fn copy(closure: &Closure) -> Result<Closure, Memory>
+    ensures { IfOk result (λ c. c ≡ closure.now) }
+{
+    Ok(Closure {
+        node: closure.node,
+        births: closure.births.copy()?,
+    })
+}
+
+/// Appends equal closures.
+pub(crate) fn add_copies(list: &mut Vec<Closure>, closures: &[Closure]) -> Result<(), Memory>
+    ensures { OnOk result (list.new.items ≡ list.old.items ++ closures.now) }
+{
+    for closure in closures {
+        list.push(copy(closure)?)?;
+    }
+    Ok(())
+}
+
+/// Puts the closures in their order, each once.
+pub(crate) fn sort(closures: &mut Vec<Closure>) -> Result<(), Memory>
+    ensures { OnOk result (closures.new.items ≡ sorted closures.old.items) }
+{
+    closures.sort_by(|a, b| closure_order(a, b))?;
+    closures.dedup_by(|a, b| closure_order(a, b) == Ordering::Equal);
+    Ok(())
+}
