@@ -1,7 +1,8 @@
 ghost use Rattle.std.specs.Prelude.{IfOk};
 ghost use Rattle.instant_net.specs.Words.{AreWords};
 
-use super::{first_roots, nested, rising_levels};
+use super::making::nested;
+use super::{first_roots, rising_levels};
 use crate::{Net, Words, front_store, open_net, open_words, tell, words_store};
 use std::alloc::Global;
 use std::test::Fail;

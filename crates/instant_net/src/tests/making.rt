@@ -24,7 +24,7 @@ fn twice(alloc: Global) -> Result<Program, Fail>
 }
 
 /// `signal a, b; if a then if b else new signal s in {s || if s then b}`.
-fn nested(alloc: Global) -> Result<Program, Fail>
+pub(super) fn nested(alloc: Global) -> Result<Program, Fail>
     ensures { IfOk result IsProgram }
 {
     let mut nodes = Vec::new(alloc);
