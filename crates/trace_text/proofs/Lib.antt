@@ -1,0 +1,13 @@
+pub mod DeclaredTokens
+pub mod Sayings
+pub mod Refused
+pub mod GivenInputs
+pub mod LineWalks
+pub mod Written
+pub mod CellWidths
+pub mod TokenTexts
+pub mod ValueTokens
+pub mod TextSayings
+pub mod ReadBack
+pub mod TextDecisions
+pub mod LineDecisions

@@ -1,0 +1,110 @@
+-- Texts that are written one after the other, each with a space behind it, are a line and one space.
+use Rattle.std.proofs.Common.{◌≡◌, ℕ, suc, ◌+◌, ◌-◌, ◌<◌, ◌≤◌, Bool, true, false, cond, ℤ, List, [], ◌∷◌, ◌++◌, length, take, drop, get_or, refl, sym, ap, ◌∙◌, subst, append_assoc, add-one, drop-cons, arith}
+use Rattle.std.specs.Ordering.{int_eq}
+use Rattle.std.specs.List.{join_with_byte}
+use Rattle.std.specs.Prelude.{int_lt}
+use Rattle.std.proofs.lemmas.List.{append-nil, drop_all, length_push, length-append}
+use Rattle.std.proofs.lemmas.Bool.Decides.{Decides-int_eq}
+use Rattle.std.proofs.lemmas.Grind.{flat_map-append}
+use Rattle.std.proofs.Math.Seq.{take-append_seam}
+use Rattle.token_system.specs.declared.cell.Value.{Value}
+use Rattle.token_system.specs.declared.cell.Token.TheVariants.{AtLeast, AtMost}
+use Rattle.token_system.specs.declared.name.CellName.TheVariants.{Declared}
+use Rattle.token_system.specs.Stores.{Valuation, value_at}
+use Rattle.token_system.specs.Texts.{text_of}
+use Rattle.agent_core.specs.declared.node.CellDecl.{CellDecl}
+use Rattle.trace_text.specs.StoreLines.{bound_texts, cell_texts, exact_text, text_if, value_texts}
+use Rattle.trace_text.specs.Writing.{spaced, Grows}
+
+pub Grows-refl : (xs : List ℕ) → Grows xs xs
+Grows-refl xs = ([], sym (append-nil xs))
+
+pub Grows-trans : (xs ys zs : List ℕ) → Grows xs ys → Grows ys zs → Grows xs zs
+Grows-trans xs ys zs a b = (a.0 ++ b.0, b.1 ∙ ap (λ (w : List ℕ). w ++ b.0) a.1 ∙ append_assoc xs a.0 b.0)
+
+pub spaced-append : (xs ys : List (List ℕ)) → spaced (xs ++ ys) ≡ spaced xs ++ spaced ys
+spaced-append xs ys = flat_map-append (λ (text : List ℕ). text ++ 32 ∷ []) xs ys
+
+-- one text
+pub spaced_one : (old text now : List ℕ) → now ≡ (old ++ text) ++ 32 ∷ [] → now ≡ old ++ spaced (text ∷ [])
+spaced_one old text now e = e ∙ append_assoc old text (32 ∷ []) ∙ ap (λ (z : List ℕ). old ++ z) (sym (append-nil (text ++ 32 ∷ [])))
+
+pub spaced-join : (text : List ℕ) (texts : List (List ℕ)) → spaced (text ∷ texts) ≡ join_with_byte 32 (text ∷ texts) ++ 32 ∷ []
+spaced-join text [] = append-nil (text ++ 32 ∷ [])
+spaced-join text (next ∷ texts) =
+    ap (λ (z : List ℕ). (text ++ 32 ∷ []) ++ z) (spaced-join next texts)
+    ∙ append_assoc text (32 ∷ []) (join_with_byte 32 (next ∷ texts) ++ 32 ∷ [])
+    ∙ sym (append_assoc text (32 ∷ join_with_byte 32 (next ∷ texts)) (32 ∷ []))
+
+-- the last space is taken back
+front : (xs : List ℕ) (x : ℕ) → take (length (xs ++ x ∷ []) - 1) (xs ++ x ∷ []) ≡ xs
+front xs x =
+    let k : length (xs ++ x ∷ []) - 1 ≡ length xs = omega (arith, length_push xs x) in
+    ap (λ (n : ℕ). take n (xs ++ x ∷ [])) k ∙ take-append_seam xs (x ∷ [])
+
+pub line_written : (old now : List ℕ) (texts : List (List ℕ)) → now ≡ old ++ spaced texts → length old < length now → take (length now - 1) now ≡ old ++ join_with_byte 32 texts
+line_written old now [] e longer = absurd (omega (arith, ap length (e ∙ append-nil old)))
+line_written old now (text ∷ texts) e longer =
+    let is : now ≡ (old ++ join_with_byte 32 (text ∷ texts)) ++ 32 ∷ [] = e ∙ ap (λ (z : List ℕ). old ++ z) (spaced-join text texts) ∙ sym (append_assoc old (join_with_byte 32 (text ∷ texts)) (32 ∷ [])) in
+    subst (λ (n : List ℕ). take (length n - 1) n ≡ old ++ join_with_byte 32 (text ∷ texts)) (sym is) (front (old ++ join_with_byte 32 (text ∷ texts)) 32)
+
+-- nothing was written
+pub nothing_written : (old now : List ℕ) (texts : List (List ℕ)) → now ≡ old ++ spaced texts → length now ≤ length old → now ≡ old ++ join_with_byte 32 texts
+nothing_written old now [] e short = e
+nothing_written old now (text ∷ texts) e short =
+    let is : now ≡ (old ++ join_with_byte 32 (text ∷ texts)) ++ 32 ∷ [] = e ∙ ap (λ (z : List ℕ). old ++ z) (spaced-join text texts) ∙ sym (append_assoc old (join_with_byte 32 (text ∷ texts)) (32 ∷ [])) in
+    absurd (omega (arith, ap length is, length_push (old ++ join_with_byte 32 (text ∷ texts)) 32, length-append old (join_with_byte 32 (text ∷ texts))))
+
+-- what was written is taken back
+pub cut_back : (old now : List ℕ) → Grows old now → take (length old) now ≡ old
+cut_back old now (more, e) = ap (take (length old)) e ∙ take-append_seam old more
+
+-- the texts of bounds
+pub equal_bounds : (name : List ℕ) (least most lo hi : ℤ) → lo ≡ hi → bound_texts name least most lo hi ≡ exact_text name lo ∷ []
+equal_bounds name least most lo hi e =
+    ap (λ b. cond b (exact_text name lo ∷ []) (text_if (int_lt least lo) (text_of name (AtLeast lo)) ++ text_if (int_lt hi most) (text_of name (AtMost hi)))) ((Decides-int_eq lo hi).1 e)
+
+pub other_bounds : (name : List ℕ) (least most lo hi : ℤ) → (lo ≡ hi → ⊥) → bound_texts name least most lo hi ≡ text_if (int_lt least lo) (text_of name (AtLeast lo)) ++ text_if (int_lt hi most) (text_of name (AtMost hi))
+other_bounds name least most lo hi differ = go (int_eq lo hi) refl
+  where
+    go : (b : Bool) → int_eq lo hi ≡ b → cond b (exact_text name lo ∷ []) (text_if (int_lt least lo) (text_of name (AtLeast lo)) ++ text_if (int_lt hi most) (text_of name (AtMost hi))) ≡ text_if (int_lt least lo) (text_of name (AtLeast lo)) ++ text_if (int_lt hi most) (text_of name (AtMost hi))
+    go true e = absurd (differ ((Decides-int_eq lo hi).0 e))
+    go false e = refl
+
+pub two_bounds : (name : List ℕ) (least most lo hi : ℤ) (old middle now : List ℕ) → (lo ≡ hi → ⊥) → middle ≡ old ++ spaced (text_if (int_lt least lo) (text_of name (AtLeast lo)))
+    → now ≡ middle ++ spaced (text_if (int_lt hi most) (text_of name (AtMost hi))) → now ≡ old ++ spaced (bound_texts name least most lo hi)
+two_bounds name least most lo hi old middle now differ a b =
+    b ∙ ap (λ (z : List ℕ). z ++ spaced (text_if (int_lt hi most) (text_of name (AtMost hi)))) a
+    ∙ append_assoc old (spaced (text_if (int_lt least lo) (text_of name (AtLeast lo)))) (spaced (text_if (int_lt hi most) (text_of name (AtMost hi))))
+    ∙ ap (λ (z : List ℕ). old ++ z) (sym (spaced-append (text_if (int_lt least lo) (text_of name (AtLeast lo))) (text_if (int_lt hi most) (text_of name (AtMost hi)))) ∙ ap spaced (sym (other_bounds name least most lo hi differ)))
+
+-- the texts of the first n cells were written, and those of the others are left
+pub record CellsWritten (cells : List CellDecl) (v : Valuation) (n : ℕ) (start now : List ℕ) : Type 0 where
+  pub rest : now ++ spaced (cell_texts n (drop n cells) v) ≡ start ++ spaced (cell_texts 0 cells v)
+  pub grown : Grows start now
+
+pub cells-start : (cells : List CellDecl) (v : Valuation) (start : List ℕ) → CellsWritten cells v 0 start start
+cells-start cells v start = record { rest = refl; grown = Grows-refl start }
+
+module _ (cells : List CellDecl) (v : Valuation) (n : ℕ) (start now : List ℕ) (w : CellsWritten cells v n start now) where
+  -- one cell more, which was read from an equal list
+  pub cells-step : (ds : List CellDecl) (d : CellDecl) (value : Value) (after : List ℕ) → ds ≡ cells → n < length ds → d ≡ get_or ds n d → value ≡ value_at v (Declared n) d.cell
+      → after ≡ now ++ spaced (value_texts d.name d.cell value) → CellsWritten cells v (n + 1) start after
+  cells-step ds d value after same lt is e a =
+      let next : drop n cells ≡ d ∷ drop (n + 1) cells = rw add-one (drop-cons cells n d (subst (λ (xs : List CellDecl). n < length xs) same lt) ∙ ap (λ (x : CellDecl). x ∷ drop (suc n) cells) (sym (is ∙ ap (λ (xs : List CellDecl). get_or xs n d) same))) in
+      let own : List ℕ = spaced (value_texts d.name d.cell (value_at v (Declared n) d.cell)) in
+      let written : after ≡ now ++ own = a ∙ ap (λ (x : Value). now ++ spaced (value_texts d.name d.cell x)) e in
+      let later : List ℕ = spaced (cell_texts (n + 1) (drop (n + 1) cells) v) in
+      let texts : spaced (cell_texts n (drop n cells) v) ≡ own ++ later =
+      ap (λ (xs : List CellDecl). spaced (cell_texts n xs v)) next
+      ∙ spaced-append (value_texts d.name d.cell (value_at v (Declared n) d.cell)) (cell_texts (suc n) (drop (n + 1) cells) v)
+      ∙ ap (λ (k : ℕ). own ++ spaced (cell_texts k (drop (n + 1) cells) v)) (sym (add-one n)) in
+      record {
+        rest = ap (λ (z : List ℕ). z ++ later) written ∙ append_assoc now own later ∙ ap (λ (z : List ℕ). now ++ z) (sym texts) ∙ w.rest;
+        grown = Grows-trans start now after w.grown (own, written);
+      }
+
+  -- all cells
+  pub cells-end : length cells ≤ n → now ≡ start ++ spaced (cell_texts 0 cells v)
+  cells-end over =
+      sym (append-nil now) ∙ ap (λ (xs : List CellDecl). now ++ spaced (cell_texts n xs v)) (sym (drop_all n cells over)) ∙ w.rest

@@ -1,0 +1,26 @@
+//! Laws of lines. Each is a function that computes nothing, and its contract is the law.
+ghost use Rattle.std.specs.Prelude.{◌≡◌, ◌≤◌, ℕ, List, length};
+ghost use Rattle.token_system.specs.Stores.{Valuation};
+ghost use Rattle.agent_core.specs.Facts.{IsProgram};
+ghost use Rattle.agent_core.specs.Programs.{CoreProgram};
+ghost use Rattle.agent_core.specs.Stores.{IsInput};
+ghost use Rattle.trace_text.specs.Inputs.{GivesInput};
+ghost use Rattle.trace_text.specs.Laws.{HasOneReading, HasOwnNames, IsDeclaredPart};
+ghost use Rattle.trace_text.specs.StoreLines.{store_line};
+
+/// A line gives exactly one input or has exactly one fault, and not both, so that what `read_input`
+/// answers is the only answer, want of memory aside.
+pub fn reading_law()
+    ensures { (p : CoreProgram) (line : List ℕ) → HasOneReading p line }
+{}
+
+/// Where the declared cells have names of their own, the line of a store gives the part of it that
+/// is over the declared cells, and two stores over the declared cells have two lines.
+pub fn writing_law()
+    ensures reads_back { (p : CoreProgram) (v i : Valuation) → IsProgram p → HasOwnNames p
+        → IsDeclaredPart p v i → GivesInput p (store_line p v) i }
+    ensures two_lines { (p : CoreProgram) (v w : Valuation) → IsProgram p → HasOwnNames p
+        → IsInput p v → IsInput p w → store_line p v ≡ store_line p w → v ≡ w }
+    ensures short { (p : CoreProgram) (v : Valuation) → IsProgram p → HasOwnNames p → IsInput p v
+        → length (store_line p v) ≤ 23039 }
+{}

@@ -1,0 +1,54 @@
+//! Reading a trace line.
+ghost use Rattle.std.specs.Prelude.{◌≡◌, ◌≤◌, length, IfErr, IfOk, OnOk};
+ghost use Rattle.std.specs.FinMap as map;
+ghost use Rattle.trace_text.specs.Pieces.{is_blank as is_blank_byte, pieces};
+ghost use Rattle.trace_text.specs.Inputs.{GivesInput};
+ghost use Rattle.trace_text.specs.Refusals.{RefusesLine, RefusesPieces};
+ghost use Rattle.trace_text.specs.Tellings.{TellsPieces};
+
+use crate::fault::LineFault;
+use crate::piece::tell_piece;
+use agent_core::Program;
+use std::alloc::Global;
+use token_system::Store;
+
+/// How many bytes a trace line has at most.
+const LONGEST: usize = 32_768;
+
+fn is_blank(byte: u8) -> bool
+    ensures { result ≡ is_blank_byte byte }
+{
+    byte == b' ' || byte == b'\t' || byte == b'\r'
+}
+
+/// Tells the tokens of each piece of a line to a store of which nothing is told.
+fn tell_pieces(program: &Program, line: &[u8], store: &mut Store) -> Result<(), LineFault>
+    requires short { length line.now ≤ 32768 }
+    requires nothing_told { store.old ≡ map.empty }
+    ensures told { OnOk result (TellsPieces program.now (pieces line.now) store.old store.new) }
+    ensures refused { IfErr result (RefusesPieces program.now (pieces line.now)) }
+{
+    let mut offset: u32 = 0;
+    for part in line.split(|byte| is_blank(*byte)) {
+        if !part.is_empty() {
+            tell_piece(program, part, offset, store)?;
+        }
+        offset += part.len() as u32 + 1;
+    }
+    Ok(())
+}
+
+/// Reads a trace line: the least store over the declared cells that entails all its tokens. The
+/// line has no line feed at its end. Its first piece that is refused decides what is answered, and
+/// before that a line of more than 32,768 bytes is refused whole.
+pub fn read_input(alloc: Global, program: &Program, line: &[u8]) -> Result<Store, LineFault>
+    ensures given { IfOk result (GivesInput program.now line.now) }
+    ensures refused { IfErr result (RefusesLine program.now line.now) }
+{
+    if line.len() > LONGEST {
+        return Err(LineFault::LineTooLong);
+    }
+    let mut input = Store::new(alloc);
+    tell_pieces(program, line, &mut input)?;
+    Ok(input)
+}
