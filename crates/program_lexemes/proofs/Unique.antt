@@ -8,8 +8,8 @@ use Rattle.program_lexemes.specs.declared.lexer.Lexeme.{Lexeme}
 use Rattle.program_lexemes.specs.declared.bytes.TextForm.{TextForm}
 use Rattle.program_lexemes.specs.declared.bytes.TextForm.TheVariants.{Program, Core}
 use Rattle.program_lexemes.specs.Forms.{is_white, kind_of}
-use Rattle.program_lexemes.specs.Lexemes.{IsLongest, NoLexeme, AreWhite, IsLexeme, Reads}
-use Rattle.program_lexemes.proofs.Reading.{inside}
+use Rattle.program_lexemes.specs.Lexemes.{IsLongest, NoLexeme, AreWhite, IsLexeme, Reads, AreLexemes, IsBad}
+use Rattle.program_lexemes.proofs.Reading.{inside, lexeme_in, reads_few}
 
 blank_32 : (form : TextForm) (bs : List ℕ) → kind_of form (32 ∷ bs) ≡ None
 blank_32 Program bs = refl
@@ -105,11 +105,13 @@ unique form text (l ∷ ls) (m ∷ ms) i (w, is, r) (w', is', r') =
     let tail : ls ≡ ms = unique form text ls ms m.end (subst Q whole r) r' in
     ap (λ x. x ∷ ls) whole ∙ ap (λ xs. m ∷ xs) tail
 
--- It has no bad byte.
-pub no_bad_byte : (form : TextForm) (text : List ℕ) (ls ms : List Lexeme) (i p : ℕ) → Reads form text i ls (length text) → Reads form text i ms p → p < length text → is_white (slice_index text p) ≡ false → NoLexeme form (drop p text) → ⊥
-no_bad_byte form text [] [] i p a b h d none = let e : is_white (slice_index text p) ≡ true = a.each p b.ordered h in cc
-no_bad_byte form text [] (m ∷ ms) i p a (w, is, r) h d none = dark form text m is (a.each m.start w.ordered (begun form text m is))
-no_bad_byte form text (l ∷ ls) [] i p (w, is, r) b h d none = at (cases_lt l.start p) (cases_lt p l.start)
+-- What is read up to a place has no bad byte before that place.
+no_bad_byte : (form : TextForm) (text : List ℕ) (ls ms : List Lexeme) (i stop p : ℕ) → Reads form text i ls stop → Reads form text i ms p → p < stop → is_white (slice_index text p) ≡ false → NoLexeme form (drop p text) → ⊥
+no_bad_byte form text [] [] i stop p a b h d none = let e : is_white (slice_index text p) ≡ true = a.each p b.ordered h in cc
+no_bad_byte form text [] (m ∷ ms) i stop p a (w, is, r) h d none =
+    let inner = lexeme_in form text m is in
+    let rest = reads_few form text ms m.end p r in dark form text m is (a.each m.start w.ordered (omega (arith, inner.ordered, rest, h)))
+no_bad_byte form text (l ∷ ls) [] i stop p (w, is, r) b h d none = at (cases_lt l.start p) (cases_lt p l.start)
   where
     no : p ≡ l.start → ⊥
     no q =
@@ -120,7 +122,20 @@ no_bad_byte form text (l ∷ ls) [] i p (w, is, r) b h d none = at (cases_lt l.s
     at (inl q) x = dark form text l is (b.each l.start w.ordered q)
     at (inr q) (inl x) = let y : is_white (slice_index text p) ≡ true = w.each p b.ordered x in cc
     at (inr q) (inr x) = no (omega arith)
-no_bad_byte form text (l ∷ ls) (m ∷ ms) i p (w, is, r) (w', is', r') h d none =
+no_bad_byte form text (l ∷ ls) (m ∷ ms) i stop p (w, is, r) (w', is', r') h d none =
     let whole : l ≡ m = one_lexeme form text i l m w w' is is' in
-    let Q : Lexeme → Type 0 = λ j. Reads form text j.end ls (length text) in
-    no_bad_byte form text ls ms m.end p (subst Q whole r) r' h d none
+    let Q : Lexeme → Type 0 = λ j. Reads form text j.end ls stop in
+    no_bad_byte form text ls ms m.end stop p (subst Q whole r) r' h d none
+
+-- So a text with lexemes to its end has none.
+pub lexed_not_bad : (form : TextForm) (text : List ℕ) (ls : List Lexeme) (p : ℕ) → AreLexemes form text ls → IsBad form text p → ⊥
+lexed_not_bad form text ls p a b = no_bad_byte form text ls b.before.0 0 (length text) p a b.before.1 b.within b.dark b.none
+
+-- A text has one bad byte at most.
+pub one_bad_byte : (form : TextForm) (text : List ℕ) (p q : ℕ) → IsBad form text p → IsBad form text q → p ≡ q
+one_bad_byte form text p q a b = go (cases_lt p q) (cases_lt q p)
+  where
+    go : (p < q) ⊎ (q ≤ p) → (q < p) ⊎ (p ≤ q) → p ≡ q
+    go (inl h) x = absurd (no_bad_byte form text b.before.0 a.before.0 0 q p b.before.1 a.before.1 h a.dark a.none)
+    go (inr h) (inl k) = absurd (no_bad_byte form text a.before.0 b.before.0 0 p q a.before.1 b.before.1 k b.dark b.none)
+    go (inr h) (inr k) = omega arith

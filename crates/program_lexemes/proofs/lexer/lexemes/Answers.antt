@@ -1,6 +1,6 @@
 use Rattle.std.proofs.Common.{length, arith}
 use Rattle.program_lexemes.proofs.Reading.{reads_in, reads_few}
-use Rattle.program_lexemes.proofs.Unique.{unique, no_bad_byte}
+use Rattle.program_lexemes.proofs.Unique.{unique, lexed_not_bad}
 use Rattle.program_lexemes.proofs.lexer.lexemes.Goals as goal
 
 pub returns-in-Ok-Ok-clause-each : goal.returns-in-Ok-Ok-clause-each
@@ -10,7 +10,7 @@ pub returns-in-Ok-Ok-clause-only : goal.returns-in-Ok-Ok-clause-only
 returns-in-Ok-Ok-clause-only c = let read = rw c.in-Ok-Ok.field-0-is at c.in-Ok-Ok.ensures in λ ls q. unique c.args.form c.args.text.now c.in-Ok-Ok.found.items ls 0 read q
 
 pub returns-in-Ok-Err-clause-only : goal.returns-in-Ok-Err-clause-only
-returns-in-Ok-Err-clause-only c = let bad = rw c.in-Ok-Err.field-0-is at c.in-Ok-Err.ensures in λ ls q. absurd (no_bad_byte c.args.form c.args.text.now ls bad.before.0 0 c.in-Ok-Err.offset q bad.before.1 bad.within bad.dark bad.none)
+returns-in-Ok-Err-clause-only c = let bad = rw c.in-Ok-Err.field-0-is at c.in-Ok-Err.ensures in λ ls q. absurd (lexed_not_bad c.args.form c.args.text.now ls c.in-Ok-Err.offset q bad)
 
 pub returns-in-Ok-Ok-clause-few : goal.returns-in-Ok-Ok-clause-few
 returns-in-Ok-Ok-clause-few c = let read = rw c.in-Ok-Ok.field-0-is at c.in-Ok-Ok.ensures in omega (arith, reads_few c.args.form c.args.text.now c.in-Ok-Ok.found.items 0 (length c.args.text.now) read)
