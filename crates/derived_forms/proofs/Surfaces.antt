@@ -3,11 +3,7 @@
 use Rattle.std.proofs.Common.{◌≡◌, ℕ, ◌+◌, ◌-◌, ◌≤◌, List, [], ◌++◌, length, true, refl, ap, sym, ◌∙◌, arith, subst, length-append}
 use Rattle.std.specs.Prelude.{All, map, filter_map}
 use Rattle.std.proofs.lemmas.List.{length-map}
-use Rattle.program_lexemes.specs.declared.bytes.TextForm.TheVariants as text_form
-use Rattle.program_lexemes.proofs.Unique.{unique}
-use Rattle.program_grammar.specs.Terms.{Term}
 use Rattle.program_grammar.specs.Phrases.{Program}
-use Rattle.program_grammar.proofs.Unambiguous.{one_program}
 use Rattle.agent_core.specs.declared.node.CellDecl.{CellDecl}
 use Rattle.agent_core.specs.declared.node.Node.{Node}
 use Rattle.agent_core.specs.Programs.{CoreProgram}
@@ -17,9 +13,9 @@ use Rattle.agent_core.proofs.ListingTrees.{root_tree}
 use Rattle.tdcc_reader.specs.Trees.{Tree}
 use Rattle.tdcc_reader.specs.Trees as surface
 use Rattle.tdcc_reader.specs.Surfaces.{SurfaceProgram, IsSurfaceOf, cell_view, program_tree, program_cells, declared_cells}
-use Rattle.tdcc_reader.specs.Sayings.{terms_of}
-use Rattle.tdcc_reader.specs.Refusals.{HasTerms, Accepts}
+use Rattle.tdcc_reader.specs.Refusals.{Accepts}
 use Rattle.tdcc_reader.specs.Texts.{ReadsAs, IsSurface}
+use Rattle.tdcc_reader.proofs.OneRefusal.{one_accepted}
 use Rattle.derived_forms.specs.Trees.{tree_of}
 use Rattle.derived_forms.specs.Forms.{form_of, IsCoreForm}
 use Rattle.derived_forms.specs.Expansions.{IsExpansion}
@@ -101,19 +97,10 @@ made_is_program s p is forms cells declared few_forms few_cells =
     let c : length p.cells ≡ length s.cells = ap length cells in
     expansion_program s p is (made_program s p is forms cells declared) (omega arith) (omega arith)
 
--- a text has one list of terms
-one_reading : (text : List ℕ) (ts us : List Term) → HasTerms text ts → HasTerms text us → ts ≡ us
-one_reading text ts us a b =
-    let same : a.lexemes ≡ b.lexemes = unique text_form.Program text a.lexemes b.lexemes 0 a.lexed.lexemes b.lexed.lexemes in
-    a.terms ∙ ap (terms_of text) same ∙ sym b.terms
-
-one_phrase : (text : List ℕ) (p q : Program) → Accepts text p → Accepts text q → p ≡ q
-one_phrase text p q a b = one_program p q (sym a.is.spells.spelled ∙ one_reading text a.terms b.terms a.has b.has ∙ b.is.spells.spelled)
-
 -- A text has one core program.
 pub one_core : (text : List ℕ) (p q : CoreProgram) → IsProgramText text p → IsProgramText text q → p ≡ q
 one_core text p q (s, (x, a, is), e) (t, (y, b, is'), e') =
-    let phrase : x ≡ y = one_phrase text x y a b in
+    let phrase : x ≡ y = one_accepted text x y a b in
     let cells : p.cells ≡ q.cells = e.cells ∙ same_cells s.cells t.cells (is.cells ∙ ap program_cells phrase ∙ sym is'.cells) ∙ sym e'.cells in
     let declared : p.declared ≡ q.declared = e.declared ∙ is.declared ∙ ap (λ (z : Program). length (declared_cells z)) phrase ∙ sym (e'.declared ∙ is'.declared) in
     let nodes : p.nodes ≡ q.nodes = same_agent text x s p a is e ∙ ap (λ (z : Program). core.listing 0 (agent_of (program_tree z))) phrase ∙ sym (same_agent text y t q b is' e') in

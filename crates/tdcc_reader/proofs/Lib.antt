@@ -12,3 +12,4 @@ pub mod Sizes
 pub mod Listings
 pub mod Asks
 pub mod Finished
+pub mod OneRefusal

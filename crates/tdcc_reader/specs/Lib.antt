@@ -14,3 +14,4 @@ pub mod Drafts
 pub mod BuildPass
 pub mod Texts
 pub mod Builds
+pub mod Laws

@@ -4,6 +4,7 @@
 mod build;
 mod draft;
 mod fault;
+mod laws;
 mod lexing;
 mod limits;
 mod naming;
@@ -15,5 +16,6 @@ mod terms;
 mod tests;
 
 pub use fault::ReadFault;
+pub use laws::refusal_law;
 pub use reader::read_program;
 pub use surface::{Form, Surface};

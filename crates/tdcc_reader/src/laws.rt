@@ -1,0 +1,10 @@
+// The laws of refusals, each proved as the contract of a function with no body.
+ghost use Rattle.std.specs.Prelude.{List, ℕ};
+ghost use Rattle.tdcc_reader.specs.Laws.{AcceptedIsNotRefused, HasOneRefusal};
+
+/// A text has at most one refusal, want of memory aside, and none where it is accepted. So what `read_program` answers
+/// is all that there is to say of a text, unless it answers `Memory`.
+pub fn refusal_law()
+    ensures one { (text : List ℕ) → HasOneRefusal text }
+    ensures none { (text : List ℕ) → AcceptedIsNotRefused text }
+{}
