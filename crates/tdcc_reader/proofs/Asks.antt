@@ -1,17 +1,16 @@
 -- In a program within the limits each ask has 1 to 16 tokens.
-use Rattle.std.proofs.Common.{◌≡◌, ℕ, suc, ◌+◌, ◌*◌, ◌≤◌, List, [], ◌∷◌, ◌++◌, length, get_or, Bool, true, false, Option, None, Some, refl, ap, sym, ◌∙◌, arith, length-append, subst}
-use Rattle.std.specs.Prelude.{All, map, nat_lt, if◌then◌else◌}
+use Rattle.std.proofs.Common.{◌≡◌, ℕ, ◌+◌, ◌*◌, ◌≤◌, List, [], ◌∷◌, ◌++◌, length, Bool, true, false, Option, None, Some, refl, arith, length-append}
+use Rattle.std.specs.Prelude.{All, nat_lt, if◌then◌else◌}
 use Rattle.std.proofs.lemmas.Bool.{ltb-false}
 use Rattle.std.proofs.lemmas.List.Elements.{All-cons, All-append, All-nil}
-use Rattle.program_grammar.specs.Phrases.{Token, Asserts, Denies, Clashes, AtLeast, AtMost, Exactly, Constraint, One, Both, Unit', Nothing, Tell, Braces, IfThen, IfElse, LocalSignal, LocalInt, Henceforth, AtNext, Ever, Whenever, Watch, Timed, Agent, Only, Par, Names, Items, Program, Runs, Signals, Ints}
+use Rattle.program_grammar.specs.Phrases.{Token, Asserts, Denies, Clashes, AtLeast, AtMost, Exactly, Constraint, One, Both, Unit', Nothing, Tell, Braces, IfThen, IfElse, LocalSignal, LocalInt, Henceforth, AtNext, Ever, Whenever, Watch, Timed, Agent, Only, Par, Program, Runs, Signals, Ints}
 use Rattle.tdcc_reader.specs.declared.limits.Limit.{Limit}
-use Rattle.tdcc_reader.specs.declared.limits.Limit.TheVariants.{TooDeep, TooManyTokens}
+use Rattle.tdcc_reader.specs.declared.limits.Limit.TheVariants.{TooManyTokens}
 use Rattle.tdcc_reader.specs.declared.draft.DraftKind.TheVariants as kind
 use Rattle.tdcc_reader.specs.Widths.{token_width, constraint_width, unit_width, agent_width, names_width, items_width}
 use Rattle.tdcc_reader.specs.Limits.{first, token_limit, constraint_limit, deep_limit, unit_limit, agent_limit, limit_from, program_limit}
-use Rattle.tdcc_reader.specs.Trees.{Ask}
 use Rattle.tdcc_reader.specs.Surfaces.{Placed, placed, token_ask, ask_of, unit_cells, unit_tree, agent_tree, names_cells, names_scope, items_cells, items_scope, tree_from, program_tree}
-use Rattle.tdcc_reader.specs.Drafts.{Entry, entry, drafts, IsAsk, IsWhole}
+use Rattle.tdcc_reader.specs.Drafts.{entry, drafts, IsAsk, IsWhole}
 
 -- none is found only where neither is
 pub none_left : {A : Type 0} (f g : Option A) → first f g ≡ None → f ≡ None

@@ -3,15 +3,15 @@ use Rattle.std.proofs.Common.{◌≡◌, ℕ, ◌+◌, ◌-◌, ◌≤◌, min, 
 use Rattle.std.specs.Prelude.{insert}
 use Rattle.std.proofs.lemmas.List.{append-nil}
 use Rattle.std.proofs.lemmas.List.Edits.{insert-append_right}
-use Rattle.program_grammar.specs.Terms.{Term, Name, Number, Signal, Int, In, Skip, If, Then, Else, New, Hence, Next, Always, When, Do, Watching, Time, On, Semicolon, Comma, Range, Ampersand, Bars, OpenBrace, CloseBrace, Bang, Hash, GreaterEqual, LessEqual, Equal}
+use Rattle.program_grammar.specs.Terms.{Name, Number, Then, Else, Do, Watching, On, Ampersand, Bars, CloseBrace, Bang, Hash, GreaterEqual, LessEqual, Equal}
 use Rattle.program_grammar.specs.Phrases.{Token, Asserts, Denies, Clashes, AtLeast, AtMost, Exactly, Constraint, One, Both, Unit', Nothing, Tell, Braces, IfThen, IfElse, LocalSignal, LocalInt, Henceforth, AtNext, Ever, Whenever, Watch, Timed, Agent, Only, Par, Names, LastName, MoreName, Items, LastItem, MoreItem, Program, Runs, Signals, Ints}
 use Rattle.program_grammar.specs.declared.parts.Part.{Part}
-use Rattle.program_grammar.specs.declared.parts.Part.TheVariants.{Declarations, MoreNames, OneUnit, MoreUnits, OneToken, MoreTokens, Bound, Branch, DeniedName, ClashingName, LeastNumber, MostNumber, ExactNumber, TheClose, EndTell, EndBody, EndLocal, TheDo, TheWatching, TheOn, EndWatch, EndTimed}
+use Rattle.program_grammar.specs.declared.parts.Part.TheVariants.{OneUnit, MoreUnits, OneToken, MoreTokens, Bound, Branch, DeniedName, ClashingName, LeastNumber, MostNumber, ExactNumber, TheClose, EndTell, EndBody, EndLocal, TheDo, TheWatching, TheOn, EndWatch, EndTimed}
 use Rattle.program_grammar.specs.Events.{Event, Takes, Leaves, token_events, constraint_events, unit_events, agent_events, names_events, items_events, program_events}
 use Rattle.tdcc_reader.specs.declared.draft.DraftKind.{DraftKind}
 use Rattle.tdcc_reader.specs.declared.draft.DraftKind.TheVariants as kind
-use Rattle.tdcc_reader.specs.Trees.{Ask, Tree}
-use Rattle.tdcc_reader.specs.Surfaces.{Placed, placed, cell_of, Declared, signal, number, token_ask, ask_of, unit_cells, agent_cells, unit_tree, agent_tree, names_cells, names_scope, items_cells, items_scope, tree_from, program_tree, declared_cells, program_cells}
+use Rattle.tdcc_reader.specs.Trees.{Ask}
+use Rattle.tdcc_reader.specs.Surfaces.{Placed, placed, cell_of, Declared, signal, number, token_ask, ask_of, unit_cells, agent_cells, unit_tree, agent_tree, names_cells, names_scope, items_cells, items_scope, tree_from, declared_cells, program_cells}
 use Rattle.tdcc_reader.specs.Drafts.{Entry, entry, drafts}
 use Rattle.tdcc_reader.specs.Passes.{over_events}
 use Rattle.tdcc_reader.specs.BuildPass as pass

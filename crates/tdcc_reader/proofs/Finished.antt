@@ -1,5 +1,5 @@
 -- What is built of an accepted text is its surface.
-use Rattle.std.proofs.Common.{◌≡◌, ℕ, zero, suc, ◌+◌, ◌<◌, ◌≤◌, List, [], ◌∷◌, length, get_or, refl, ap, sym, ◌∙◌, arith, subst, Option, None}
+use Rattle.std.proofs.Common.{◌≡◌, ℕ, zero, suc, ◌<◌, ◌≤◌, List, [], ◌∷◌, length, get_or, refl, ap, sym, ◌∙◌, arith, subst, None}
 use Rattle.std.specs.Prelude.{All, map}
 use Rattle.std.proofs.lemmas.List.{length-map}
 use Rattle.program_grammar.specs.Phrases.{Program}
@@ -7,9 +7,8 @@ use Rattle.program_grammar.specs.Spelling.{program}
 use Rattle.agent_core.specs.declared.node.CellDecl.{CellDecl}
 use Rattle.tdcc_reader.specs.declared.draft.Draft.{Draft}
 use Rattle.tdcc_reader.specs.declared.surface.Form.{Form}
-use Rattle.tdcc_reader.specs.Trees.{size}
-use Rattle.tdcc_reader.specs.Surfaces.{SurfaceProgram, IsSurfaceOf, program_tree, program_cells, declared_cells, cell_view}
-use Rattle.tdcc_reader.specs.Drafts.{IsWhole, IsWholeDraft, draft_view, drafts, forms_at}
+use Rattle.tdcc_reader.specs.Surfaces.{IsSurfaceOf, program_tree, program_cells, declared_cells, cell_view}
+use Rattle.tdcc_reader.specs.Drafts.{IsWhole, IsWholeDraft, draft_view, forms_at}
 use Rattle.tdcc_reader.specs.BuildPass.{Built}
 use Rattle.tdcc_reader.specs.Builds.{IsBuilt, IsChecked, IsReady}
 use Rattle.program_grammar.specs.Terms.{Term}

@@ -1,5 +1,5 @@
 -- Insertion into a list under a map.
-use Rattle.std.proofs.Common.{◌≡◌, ℕ, zero, suc, ◌+◌, ◌-◌, ◌≤◌, min, List, [], ◌∷◌, ◌++◌, length, reverse, refl, ap, sym, ◌∙◌, arith}
+use Rattle.std.proofs.Common.{◌≡◌, ℕ, zero, suc, ◌+◌, ◌-◌, min, List, [], ◌∷◌, ◌++◌, length, reverse, refl, ap, sym, ◌∙◌}
 use Rattle.std.specs.Prelude.{map, insert}
 use Rattle.std.proofs.lemmas.List.{length-map, reverse-append}
 

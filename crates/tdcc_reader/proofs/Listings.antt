@@ -1,9 +1,9 @@
 -- The forms of a tree's drafts are the tree's listing.
-use Rattle.std.proofs.Common.{◌≡◌, ℕ, suc, ◌+◌, ◌≤◌, List, [], ◌∷◌, ◌++◌, length, refl, ap, sym, ◌∙◌, arith, length-append}
+use Rattle.std.proofs.Common.{◌≡◌, ℕ, suc, ◌+◌, ◌≤◌, List, [], ◌∷◌, ◌++◌, length, refl, ap, ◌∙◌, arith, length-append}
 use Rattle.tdcc_reader.specs.declared.surface.Form.{Form}
 use Rattle.tdcc_reader.specs.declared.surface.Form.TheVariants as form
 use Rattle.tdcc_reader.specs.Trees.{Tree, Skip, Tell, Then, Else, Par, New, Hence, Next, Always, When, Watch, Time, size, listing}
-use Rattle.tdcc_reader.specs.Drafts.{Entry, entry, drafts, link, form_at, forms_at}
+use Rattle.tdcc_reader.specs.Drafts.{Entry, drafts, link, form_at, forms_at}
 
 length-drafts : (t : Tree) → length (drafts t) ≡ size t
 length-drafts Skip = refl

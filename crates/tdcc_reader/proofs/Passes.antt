@@ -1,5 +1,5 @@
 -- A pass over the steps of a program, with its terms, is the pass over its events.
-use Rattle.std.proofs.Common.{◌≡◌, ℕ, suc, ◌+◌, List, [], ◌∷◌, get_or, refl, ap, sym, ◌∙◌, arith}
+use Rattle.std.proofs.Common.{◌≡◌, ℕ, suc, ◌+◌, List, [], ◌∷◌, get_or, refl, ap, ◌∙◌, arith}
 use Rattle.std.specs.Prelude.{map}
 use Rattle.program_grammar.specs.Terms.{Term, Skip}
 use Rattle.program_grammar.specs.declared.words.Language.{Language}

@@ -1,6 +1,6 @@
 -- Keywords and symbols, found by their bytes.
-use Rattle.std.proofs.Common.{◌≡◌, ℕ, ℤ, List, [], ◌∷◌, refl, ap, sym, ◌∙◌, Option, Some, None, Bool, true, false, bytes_eq}
-use Rattle.std.specs.Prelude.{find, option_map, unwrap_or, cond, IfSome, IfNone}
+use Rattle.std.proofs.Common.{◌≡◌, ℕ, ℤ, List, [], ◌∷◌, refl, ap, ◌∙◌, Some, None, Bool, true, false, bytes_eq}
+use Rattle.std.specs.Prelude.{find, cond}
 use Rattle.std.proofs.lemmas.Slice.Eq.{bytes_eq-Decides}
 use Rattle.program_lexemes.specs.declared.keywords.Keyword.{Keyword}
 use Rattle.program_lexemes.specs.declared.keywords.Keyword.TheVariants as keyword

@@ -1,10 +1,10 @@
 -- A program has at most as many cells, and at most as many forms, as it has terms.
-use Rattle.std.proofs.Common.{◌≡◌, ℕ, suc, ◌+◌, ◌≤◌, List, [], ◌∷◌, ◌++◌, length, arith, length-append}
-use Rattle.program_grammar.specs.Terms.{Term, Name, Number, Signal, Int, In, Skip, If, Then, Else, New, Hence, Next, Always, When, Do, Watching, Time, On, Semicolon, Comma, Range, Ampersand, Bars, OpenBrace, CloseBrace}
+use Rattle.std.proofs.Common.{ℕ, ◌+◌, ◌≤◌, List, [], ◌∷◌, length, arith, length-append}
+use Rattle.program_grammar.specs.Terms.{Term, Then, Else, Do, Watching, On, Semicolon, Ampersand, Bars, CloseBrace}
 use Rattle.program_grammar.specs.Phrases.{Token, Asserts, Denies, Clashes, AtLeast, AtMost, Exactly, Constraint, One, Both, Unit', Nothing, Tell, Braces, IfThen, IfElse, LocalSignal, LocalInt, Henceforth, AtNext, Ever, Whenever, Watch, Timed, Agent, Only, Par, Names, LastName, MoreName, Items, LastItem, MoreItem, Program, Runs, Signals, Ints}
 use Rattle.program_grammar.specs.Spelling.{token, constraint, unit, agent, names, items, program}
 use Rattle.tdcc_reader.specs.Trees.{size}
-use Rattle.tdcc_reader.specs.Surfaces.{Placed, placed, signal, number, unit_cells, agent_cells, unit_tree, agent_tree, names_cells, names_scope, items_cells, items_scope, tree_from, program_tree, program_cells}
+use Rattle.tdcc_reader.specs.Surfaces.{Placed, placed, unit_cells, agent_cells, unit_tree, agent_tree, names_cells, names_scope, items_cells, items_scope, tree_from, program_tree, program_cells}
 
 token_longer : (t : Token) (k : List Term) → length k + 1 ≤ length (token t k)
 token_longer (Asserts x) k = omega arith

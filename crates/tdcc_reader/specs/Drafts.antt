@@ -1,11 +1,11 @@
 -- Forms while they are read: with the place of a par's right part told from the par's own.
-use Rattle.std.specs.Prelude.{◌≡◌, ℕ, suc, ◌+◌, ◌≤◌, min, List, [], ◌∷◌, ◌++◌, map, length}
+use Rattle.std.specs.Prelude.{ℕ, ◌+◌, ◌≤◌, min, List, [], ◌∷◌, ◌++◌, length}
 use Rattle.tdcc_reader.specs.declared.surface.Form.{Form}
 use Rattle.tdcc_reader.specs.declared.surface.Form.TheVariants as form
 use Rattle.tdcc_reader.specs.declared.draft.Draft as code
 use Rattle.tdcc_reader.specs.declared.draft.DraftKind.{DraftKind}
 use Rattle.tdcc_reader.specs.declared.draft.DraftKind.TheVariants as kind
-use Rattle.tdcc_reader.specs.Trees.{Ask, Tree, Skip, Tell, Then, Else, Par, New, Hence, Next, Always, When, Watch, Time, size}
+use Rattle.tdcc_reader.specs.Trees.{Ask, Tree, Skip, Tell, Then, Else, Par, New, Hence, Next, Always, When, Watch, Time}
 
 -- a form with its constraint
 pub record Entry : Type 0 where

@@ -1,13 +1,12 @@
 -- The pass that looks for the limits: how many units are around, how many tokens the constraint at hand has so far, and
 -- what went past a limit first.
-use Rattle.std.specs.Prelude.{ℕ, ◌+◌, ◌-◌, nat_lt, if◌then◌else◌, Option, Some, None, Bool}
-use Rattle.program_grammar.specs.Terms.{Term, class_of}
+use Rattle.std.specs.Prelude.{ℕ, ◌+◌, ◌-◌, Option}
+use Rattle.program_grammar.specs.Terms.{class_of}
 use Rattle.program_grammar.specs.declared.words.Word.{Word}
 use Rattle.program_grammar.specs.declared.words.Word.TheVariants.{Name, Bang, Hash, Skip}
 use Rattle.program_grammar.specs.declared.parts.Part.{Part}
 use Rattle.program_grammar.specs.declared.parts.Part.TheVariants.{OneUnit, OneToken, MoreTokens, TheClose, TheWatching, TheOn, EndBody, EndLocal}
 use Rattle.tdcc_reader.specs.declared.limits.Limit.{Limit}
-use Rattle.tdcc_reader.specs.declared.limits.Limit.TheVariants.{TooDeep, TooManyTokens}
 use Rattle.tdcc_reader.specs.declared.limits.Limits.{Limits}
 use Rattle.tdcc_reader.specs.Limits.{first, token_limit, deep_limit}
 use Rattle.tdcc_reader.specs.Passes.{Pass}

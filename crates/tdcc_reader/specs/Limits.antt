@@ -1,7 +1,7 @@
 -- The limits of a program: units are at most 64 deep, and a constraint has at most 8 tokens as they are written. What
 -- goes past a limit first, in the order of the terms, is refused at its first term. This project's own.
 use Rattle.std.specs.Prelude.{ℕ, ◌+◌, nat_lt, if◌then◌else◌, Option, Some, None}
-use Rattle.program_grammar.specs.Phrases.{Token, Constraint, One, Both, Unit', Nothing, Tell, Braces, IfThen, IfElse, LocalSignal, LocalInt, Henceforth, AtNext, Ever, Whenever, Watch, Timed, Agent, Only, Par, Program, Runs, Signals, Ints}
+use Rattle.program_grammar.specs.Phrases.{Constraint, One, Both, Unit', Nothing, Tell, Braces, IfThen, IfElse, LocalSignal, LocalInt, Henceforth, AtNext, Ever, Whenever, Watch, Timed, Agent, Only, Par, Program, Runs, Signals, Ints}
 use Rattle.tdcc_reader.specs.declared.limits.Limit.{Limit}
 use Rattle.tdcc_reader.specs.declared.limits.Limit.TheVariants.{TooDeep, TooManyTokens}
 use Rattle.tdcc_reader.specs.Widths.{token_width, constraint_width, unit_width, agent_width, names_width, items_width}

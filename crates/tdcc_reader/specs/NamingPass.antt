@@ -1,5 +1,5 @@
 -- The pass that looks at the names: those in scope, what waits for a later term, and the first fault.
-use Rattle.std.specs.Prelude.{ℕ, ◌+◌, ℤ, List, [], ◌∷◌, map, reverse, Option, Some, None}
+use Rattle.std.specs.Prelude.{ℕ, ℤ, List, [], ◌∷◌, map, reverse, Option}
 use Rattle.token_system.specs.declared.cell.Kind.{Kind}
 use Rattle.token_system.specs.declared.cell.Kind.TheVariants as kind
 use Rattle.program_grammar.specs.Terms.{Term}
@@ -11,7 +11,7 @@ use Rattle.tdcc_reader.specs.declared.naming.Waiting.TheVariants as waiting
 use Rattle.tdcc_reader.specs.declared.naming.Known as code
 use Rattle.tdcc_reader.specs.declared.naming.Naming as pass
 use Rattle.tdcc_reader.specs.Limits.{first}
-use Rattle.tdcc_reader.specs.Scope.{Known, known, kind_of, unknown_fault, signal_fault, number_fault, declared_fault, domain_fault, signal_use, any_use}
+use Rattle.tdcc_reader.specs.Scope.{Known, known, kind_of, signal_fault, number_fault, declared_fault, domain_fault, signal_use, any_use}
 use Rattle.tdcc_reader.specs.Passes.{Pass, by_term}
 
 pub record Names : Type 0 where

@@ -1,5 +1,5 @@
 -- What the lexemes of a text say: the term of each, by its kind and its bytes. This project's own.
-use Rattle.std.specs.Prelude.{ℤ, List, map, Option, option_map, unwrap_or, find, bytes_eq, Bool}
+use Rattle.std.specs.Prelude.{List, map, Option, option_map, unwrap_or, find, bytes_eq, Bool}
 use Rattle.program_lexemes.specs.declared.lexer.LexKind.{LexKind}
 use Rattle.program_lexemes.specs.declared.lexer.LexKind.TheVariants as kind
 use Rattle.program_lexemes.specs.declared.lexer.Lexeme.{Lexeme}

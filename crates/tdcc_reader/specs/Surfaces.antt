@@ -1,7 +1,7 @@
 -- The surface of a program: its cells, how many of them are declared, and its forms. A written x=n is the two tokens
 -- x>=n and x<=n; braces make no form. Declared cells stand in the order of their declarations, and behind them one
 -- local cell for each `new`, in order. This project's own.
-use Rattle.std.specs.Prelude.{◌≡◌, ℕ, ◌+◌, ◌≤◌, ℤ, pos, List, [], ◌∷◌, ◌++◌, map, length, bytes_eq, if◌then◌else◌, None}
+use Rattle.std.specs.Prelude.{◌≡◌, ℕ, ◌+◌, ℤ, pos, List, [], ◌∷◌, ◌++◌, map, length, bytes_eq, if◌then◌else◌}
 use Rattle.token_system.specs.declared.cell.Cell.{Cell}
 use Rattle.token_system.specs.declared.cell.Kind.{Kind}
 use Rattle.token_system.specs.declared.cell.Kind.TheVariants as kind

@@ -1,5 +1,5 @@
 -- The programs that texts are.
-use Rattle.std.specs.Prelude.{◌≡◌, ◌≤◌, ℕ, List, length}
+use Rattle.std.specs.Prelude.{ℕ, List}
 use Rattle.program_grammar.specs.Phrases.{Program}
 use Rattle.tdcc_reader.specs.Refusals.{Accepts}
 use Rattle.tdcc_reader.specs.Surfaces.{SurfaceProgram, IsSurfaceOf}

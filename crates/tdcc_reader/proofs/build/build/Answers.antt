@@ -1,4 +1,4 @@
-use Rattle.std.proofs.Common.{◌≡◌, ◌∙◌, Result, Ok, Err, IfOk}
+use Rattle.std.proofs.Common.{◌∙◌}
 use Rattle.std.specs.Prelude.{map}
 use Rattle.program_grammar.specs.declared.words.Language.TheVariants as language
 use Rattle.tdcc_reader.specs.TermViews.{term_view}

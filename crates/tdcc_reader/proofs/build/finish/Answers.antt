@@ -1,4 +1,4 @@
-use Rattle.std.proofs.Common.{◌≡◌, refl, ap, sym, ◌∙◌, subst}
+use Rattle.std.proofs.Common.{refl, ap, sym, ◌∙◌, subst}
 use Rattle.std.specs.Prelude.{All, map}
 use Rattle.tdcc_reader.specs.Surfaces.{IsSurfaceOf}
 use Rattle.tdcc_reader.specs.Drafts.{IsWholeDraft, draft_view, forms_at}

@@ -1,4 +1,4 @@
-use Rattle.std.proofs.Common.{◌≡◌, ap, sym, ◌∙◌, None, []}
+use Rattle.std.proofs.Common.{ap, ◌∙◌, None, []}
 use Rattle.std.specs.Prelude.{map}
 use Rattle.program_grammar.specs.declared.words.Language.TheVariants as language
 use Rattle.tdcc_reader.specs.declared.naming.Waiting.TheVariants as waiting

@@ -1,4 +1,4 @@
-use Rattle.std.proofs.Common.{◌≡◌, ◌≤◌, List, length, sym, ◌∙◌, subst, arith}
+use Rattle.std.proofs.Common.{◌≡◌, List, sym, ◌∙◌, subst, arith}
 use Rattle.std.specs.Prelude.{map}
 use Rattle.std.proofs.lemmas.List.{length-map}
 use Rattle.program_grammar.specs.Reading.{AreSteps}
@@ -10,7 +10,6 @@ use Rattle.tdcc_reader.specs.BuildPass.{built_view}
 use Rattle.tdcc_reader.specs.Refusals.{IsProgramOf}
 use Rattle.tdcc_reader.specs.Surfaces.{IsSurfaceOf}
 use Rattle.tdcc_reader.specs.Texts.{ReadsAs}
-use Rattle.tdcc_reader.specs.Builds.{IsReady}
 use Rattle.tdcc_reader.proofs.Options.{ok_to, ok_or, err_to}
 use Rattle.tdcc_reader.proofs.Finished.{all_ready}
 use Rattle.tdcc_reader.proofs.reader.read_program.Goals as goal

@@ -1,4 +1,4 @@
-use Rattle.std.proofs.Common.{◌≡◌, ap, sym, ◌∙◌}
+use Rattle.std.proofs.Common.{ap, sym}
 use Rattle.std.specs.Prelude.{option_map, unwrap_or}
 use Rattle.program_grammar.specs.Terms.{Skip}
 use Rattle.tdcc_reader.specs.Sayings.{symbol_term}

@@ -1,6 +1,5 @@
-use Rattle.std.proofs.Common.{◌≡◌, ◌<◌, ap, sym, ◌∙◌, arith, length, drop}
+use Rattle.std.proofs.Common.{ap, sym, ◌∙◌}
 use Rattle.std.proofs.lemmas.List.{take_all}
-use Rattle.std.specs.Prelude.{map}
 use Rattle.program_lexemes.specs.Numbers.{is_long}
 use Rattle.tdcc_reader.specs.Sayings.{too_long, terms_of}
 use Rattle.tdcc_reader.proofs.Places.{first_here, nowhere}

@@ -1,4 +1,4 @@
-use Rattle.std.proofs.Common.{◌≡◌, ap, ◌∙◌}
+use Rattle.std.proofs.Common.{ap, ◌∙◌}
 use Rattle.tdcc_reader.specs.BuildPass.{declares, built_view}
 use Rattle.tdcc_reader.proofs.build.Builder.declare_signal.Goals as goal
 

@@ -1,4 +1,4 @@
-use Rattle.std.proofs.Common.{◌≡◌, ap, sym, ◌∙◌}
+use Rattle.std.proofs.Common.{ap, sym, ◌∙◌}
 use Rattle.tdcc_reader.specs.TermViews.{term_view}
 use Rattle.tdcc_reader.specs.NamingPass.{takes_name, takes_names, takes_number, takes_fixed, names_view}
 use Rattle.tdcc_reader.proofs.Sayings.{keyword_by, symbol_by}
