@@ -1,0 +1,3 @@
+pub mod DeclaredParts
+pub mod Books
+pub mod Codes
