@@ -12,7 +12,8 @@ use Rattle.derived_forms.specs.ProgramTexts.{IsProgramText}
 use Rattle.derived_forms.specs.Forms.{form_of}
 use Rattle.derived_forms.proofs.NodeForms.{forms_listed}
 use Rattle.derived_forms.proofs.Surfaces.{expansion_program, one_core}
-use Rattle.tdcc_tool.specs.Accepted.{IsBuilt, IsBuiltForm, Accepts}
+use Rattle.tdcc_tool.specs.Accepted.{IsBuilt, Accepts}
+use Rattle.tdcc_tool.specs.Signals.{HasSignalsOnly}
 
 -- such a text is not too long
 pub built_short : (text : List ℕ) (p : CoreProgram) → IsBuilt text p → length text ≤ 65536
@@ -49,9 +50,9 @@ none_small text s reads (p, expansion) large q a = go large
     go (inl many) = let e = nodes in let few = a.few_nodes in omega arith
     go (inr many) = let e = cells in let few = a.few_cells in omega arith
 
--- nor one whose program is not of the form that is built
-pub none_formed : (text : List ℕ) (p : CoreProgram) → IsProgramText text p → (IsBuiltForm p → ⊥) → (q : CoreProgram) → IsBuilt text q → ⊥
-none_formed text p reads other q a = other (subst IsBuiltForm (sym (one_core text p q reads a.reads)) a.form)
+-- nor one whose program has a number
+pub none_formed : (text : List ℕ) (p : CoreProgram) → IsProgramText text p → (HasSignalsOnly p → ⊥) → (q : CoreProgram) → IsBuilt text q → ⊥
+none_formed text p reads other q a = other (subst HasSignalsOnly (sym (one_core text p q reads a.reads)) a.signals)
 
 -- so are the texts that run
 pub accepted_program : (text : List ℕ) (p : CoreProgram) → Accepts text p → IsProgram p

@@ -1,11 +1,12 @@
-pub mod FormListings
-pub mod LaterOutputs
-pub mod FirstOutputs
+pub mod SignalCells
 pub mod AcceptedPrograms
 pub mod DeclaredTokens
+pub mod DeclaredLines
 pub mod Gathering
 pub mod NamedTokens
 pub mod LineTexts
+pub mod InstantNets
+pub mod RunAnswers
 pub mod RunSteps
 pub mod Texts
 pub mod OneAnswer

@@ -1,41 +1,47 @@
--- How a run over the lines of a trace begins, goes on and ends.
-use Rattle.std.proofs.Common.{◌≡◌, ◌≢◌, inl, inr, ℕ, suc, ◌+◌, ◌<◌, ◌≤◌, Bool, true, false, cond, List, [], ◌∷◌, ◌++◌, length, take, Some, None, refl, sym, ap, ◌∙◌, subst, arith, length-append, append_assoc}
+-- How a run over the lines of a trace begins, goes on and ends, by the book that it keeps.
+use Rattle.std.proofs.Common.{◌≡◌, ◌≢◌, inl, inr, ℕ, suc, ◌<◌, ◌≤◌, Bool, true, false, cond, List, [], ◌∷◌, ◌++◌, length, take, Some, None, refl, sym, ap, ◌∙◌, subst, arith, length-append, append_assoc, ◌⊎◌}
 use Rattle.std.specs.Prelude.{slice_get, Option, OnSome, IfSome, Ok, Err, ◌==◌}
-use Rattle.std.proofs.lemmas.List.{append-nil}
-use Rattle.std.proofs.lemmas.Grind.{flat_map-append}
+use Rattle.std.proofs.lemmas.List.{append-nil, take-append-le}
 use Rattle.std.proofs.Math.Seq.{take-append_seam}
 use Rattle.std.specs.Io.KnownBytes.{prepend_known}
 use Rattle.tdcc_base.specs.declared.status.Status.{Status}
 use Rattle.tdcc_base.specs.declared.status.Status.TheVariants as statuses
-use Rattle.tdcc_base.specs.declared.stops.LineEnd.TheVariants as ends
+use Rattle.tdcc_base.specs.declared.stops.LineEnd.TheVariants as line_ends
 use Rattle.tdcc_base.specs.declared.stops.ReadStop.TheVariants as stops
 use Rattle.tdcc_base.specs.declared.stops.TextEnd.{TextEnd}
 use Rattle.tdcc_base.specs.Texts.{ReadsText, text_of}
 use Rattle.tdcc_base.specs.Lines.{first_line, after_line, onto_first, lines_of, ReadsLine}
 use Rattle.token_system.specs.Stores.{Valuation}
+use Rattle.agent_core.specs.declared.node.Closure.{Closure}
 use Rattle.agent_core.specs.Programs.{CoreProgram}
 use Rattle.agent_core.specs.Outputs.{IsRun}
-use Rattle.agent_laws.proofs.Runs.{run-push}
+use Rattle.agent_core.specs.Closures.{roots}
+use Rattle.agent_core.specs.Leaves.{leaves}
+use Rattle.residuals.specs.RootLists.{listed}
+use Rattle.run_book.specs.Books.{BookView, Keeps}
+use Rattle.tdcc_tool.specs.declared.answer.End.{End}
+use Rattle.tdcc_tool.specs.declared.answer.End.TheVariants as ends
 use Rattle.tdcc_tool.specs.Inputs.{GivesInput}
-use Rattle.tdcc_tool.specs.StoreLines.{store_line}
-use Rattle.tdcc_tool.specs.Messages.{trace_line, program_line}
+use Rattle.tdcc_tool.specs.Messages.{program_line}
 use Rattle.tdcc_tool.specs.Accepted.{Accepts}
-use Rattle.tdcc_tool.specs.Answers.{Refuses, AnswersRun, GiveInputs, Stops, Ends, RunAnswer, store_lines}
-use Rattle.tdcc_tool.specs.Instants.{Goes}
+use Rattle.tdcc_tool.specs.RunEnds.{leaf_count, Stops, EndsBy, status_of, end_line}
+use Rattle.tdcc_tool.specs.Answers.{Refuses, AnswersRun, GiveInputs, AreSmall, RunAnswer, store_lines}
+use Rattle.tdcc_tool.specs.Steps.{count_now, Goes, EndsAt}
 use Rattle.tdcc_tool.proofs.AcceptedPrograms.{built_short}
+use Rattle.tdcc_tool.proofs.DeclaredLines.{same-store_lines}
 
--- the run over the first n lines
-pub record Progress (p : CoreProgram) (trace : List ℕ) (left : Option (List ℕ)) (n : ℕ) (o : List ℕ) : Type 0 where
+-- the book keeps the run over the lines that are done
+pub record Progress (p : CoreProgram) (trace : List ℕ) (left : Option (List ℕ)) (b : BookView) : Type 0 where
   pub done : List (List ℕ)
-  pub ins : List Valuation
-  pub outs : List Valuation
+  pub full : List Valuation
   pub rest : List ℕ
   pub known : left ≡ Some rest
-  pub count : length done ≡ n
   pub lines : lines_of trace ≡ done ++ lines_of rest
-  pub given : GiveInputs p done ins
-  pub run : IsRun p ins outs
-  pub written : o ≡ store_lines p outs
+  pub program : b.program ≡ p
+  pub few : length b.ins ≤ 65536
+  pub given : GiveInputs p done b.ins
+  pub keeps : Keeps b full
+  pub small : AreSmall p full
 
 -- the first line of bytes, and the lines behind it
 lines-first : (bytes : List ℕ) → bytes ≢ [] → lines_of bytes ≡ first_line bytes ∷ lines_of (after_line bytes)
@@ -53,22 +59,22 @@ lines-first (b ∷ c ∷ bytes) some = go (b == 10) (lines-first (c ∷ bytes) (
     go false h = ap (onto_first b) h
 
 module _ (p : CoreProgram) where
-  pub progress-start : (left : Option (List ℕ)) → IfSome left (λ trace. Progress p trace left 0 [])
-  progress-start None = tt
-  progress-start (Some trace) = record {
+  pub progress-start : (left : Option (List ℕ)) (b : BookView) → b.program ≡ p → b.ins ≡ [] → Keeps b [] → IfSome left (λ trace. Progress p trace left b)
+  progress-start None b same ins keeps = tt
+  progress-start (Some trace) b same ins keeps = record {
     done = [];
-    ins = [];
-    outs = [];
+    full = [];
     rest = trace;
     known = refl;
-    count = refl;
     lines = refl;
-    given = tt;
-    run = record { whole = refl; each = λ n i v ei ev. absurd (cc) };
-    written = refl;
+    program = same;
+    few = let none = ap length ins in omega arith;
+    given = subst (GiveInputs p []) (sym ins) tt;
+    keeps = keeps;
+    small = λ n lt. absurd (omega arith);
   }
 
-  given_long : (lines : List (List ℕ)) (ins : List Valuation) → GiveInputs p lines ins → length ins ≡ length lines
+  pub given_long : (lines : List (List ℕ)) (ins : List Valuation) → GiveInputs p lines ins → length ins ≡ length lines
   given_long [] [] r = refl
   given_long (line ∷ lines) (i ∷ ins) r = ap suc (given_long lines ins r.2)
   given_long [] (i ∷ ins) r = absurd r
@@ -84,78 +90,123 @@ module _ (p : CoreProgram) where
   at_seam [] y ys = refl
   at_seam (x ∷ xs) y ys = at_seam xs y ys
 
-  -- where the run stops, after the lines that are done
-  ended : (trace o e : List ℕ) (left : Option (List ℕ)) (n : ℕ) (s : Status) (pr : Progress p trace left n o) → n ≤ 65536 → Ends p (lines_of trace) n s e → RunAnswer p (lines_of trace) s o e
-  ended trace o e left n s pr few end =
-      let long = given_long pr.done pr.ins pr.given in
-      let same : length pr.ins ≡ n = long ∙ pr.count in
-      record {
-        ins = pr.ins;
-        outs = pr.outs;
-        few = omega (arith, same);
-        given = subst (λ (ls : List (List ℕ)). GiveInputs p ls pr.ins) (sym (ap (λ (k : ℕ). take k (lines_of trace)) long ∙ ap (take (length pr.done)) pr.lines ∙ take-append_seam pr.done (lines_of pr.rest))) pr.given;
-        run = pr.run;
-        written = pr.written;
-        ends = subst (λ (k : ℕ). Ends p (lines_of trace) k s e) (sym same) end;
-      }
+  module _ (trace : List ℕ) (left : Option (List ℕ)) (b : BookView) (pr : Progress p trace left b) where
+    long : length b.ins ≡ length pr.done
+    long = given_long pr.done b.ins pr.given
 
-  pub ended_ok : (start left new : Option (List ℕ)) (line o e : List ℕ) (n : ℕ) → IfSome start (λ trace. Progress p trace left n o) → ReadsLine left new line (Ok ends.End) → e ≡ [] → n ≤ 65536
-      → IfSome start (λ trace. RunAnswer p (lines_of trace) statuses.Ok o e)
-  ended_ok None left new line o e n pr r none few = tt
-  ended_ok (Some trace) left new line o e n pr r none few =
-      let h = subst (λ (l : Option (List ℕ)). ReadsLine l new line (Ok ends.End)) pr.known r in
+    full_long : length pr.full ≡ length b.ins
+    full_long = pr.keeps.run.whole
+
+    -- the leaves that the book counts are those of the instant after its run
+    count_same : count_now b ≡ leaf_count p pr.full
+    count_same =
+        ap (λ (q : CoreProgram). length (leaves q (listed b.roots) (length b.ins))) pr.program
+        ∙ ap (λ (rs : List Closure). length (leaves p rs (length b.ins))) (pr.keeps.roots.all ∙ ap (λ (q : CoreProgram). roots q pr.full) pr.program)
+        ∙ ap (λ (n : ℕ). length (leaves p (roots p pr.full) n)) (sym full_long)
+
+    -- where the run ends so, after the lines that are done
+    ended : (end : End) (s : Status) (o e : List ℕ) → EndsBy p (lines_of trace) pr.full end → s ≡ status_of end → o ≡ store_lines b.program b.outs → e ≡ end_line (length b.ins) end
+        → RunAnswer p (lines_of trace) s o e
+    ended end s o e ends status out err = record {
+      ins = b.ins;
+      outs = pr.full;
+      few = pr.few;
+      given = subst (λ (ls : List (List ℕ)). GiveInputs p ls b.ins) (sym (ap (λ (k : ℕ). take k (lines_of trace)) long ∙ ap (take (length pr.done)) pr.lines ∙ take-append_seam pr.done (lines_of pr.rest))) pr.given;
+      run = subst (λ (q : CoreProgram). IsRun q b.ins pr.full) pr.program pr.keeps.run;
+      small = pr.small;
+      written = out ∙ ap (λ (q : CoreProgram). store_lines q b.outs) pr.program ∙ sym (same-store_lines p pr.full b.outs pr.keeps.declared);
+      end = end;
+      ends = ends;
+      status_is = status;
+      told = err ∙ ap (λ (n : ℕ). end_line n end) (sym full_long);
+    }
+
+    -- the first line that is left stands in the trace behind those that are done
+    line_there : (line rest : List ℕ) → lines_of pr.rest ≡ line ∷ lines_of rest → slice_get (lines_of trace) (length pr.full) ≡ Some line
+    line_there line rest first =
+        ap (slice_get (lines_of trace)) (full_long ∙ long) ∙ ap (λ ls. slice_get ls (length pr.done)) (pr.lines ∙ ap (λ ls. pr.done ++ ls) first) ∙ at_seam pr.done line (lines_of rest)
+
+    ends_at : (after : BookView) (line rest : List ℕ) (end : End) → lines_of pr.rest ≡ line ∷ lines_of rest → length line ≤ 32768 → EndsAt b after line end → EndsBy p (lines_of trace) pr.full end
+    ends_at after line rest ends.Whole first short h = absurd h
+    ends_at after line rest ends.Line first short h =
+        (line, line_there line rest first, subst (λ (n : ℕ). Stops p n line) (sym full_long) (subst (λ (q : CoreProgram). Stops q (length b.ins) line) pr.program h.0))
+    ends_at after line rest (ends.Net count) first short (few, input, given, over) =
+        let fewer : length pr.full < 65536 = let e = full_long in omega arith in (
+          line,
+          line_there line rest first,
+          record { few = fewer; short = short; input = input; given = subst (λ (q : CoreProgram). GivesInput q line input) pr.program given },
+          over.counted ∙ count_same,
+          over.over,
+        )
+
+    same_after : (after : BookView) (line : List ℕ) (end : End) → EndsAt b after line end → after ≡ b
+    same_after after line ends.Whole h = absurd h
+    same_after after line ends.Line h = h.1
+    same_after after line (ends.Net count) h = h.3.same
+
+    small_more : (output : Valuation) → count_now b ≤ 65536 → AreSmall p (pr.full ++ output ∷ [])
+    small_more output fits n lt = go (split n (length pr.full) (let k = length-append pr.full (output ∷ []) in omega arith))
+      where
+        split : (n m : ℕ) → n ≤ m → (n < m) ⊎ (n ≡ m)
+        split n m le = grind arith
+
+        go : (n < length pr.full) ⊎ (n ≡ length pr.full) → leaf_count p (take n (pr.full ++ output ∷ [])) ≤ 65536
+        go (inl less) = subst (λ (z : List Valuation). leaf_count p z ≤ 65536) (sym (take-append-le n pr.full (output ∷ []) (let h : n ≤ length pr.full = omega arith in h))) (pr.small n less)
+        go (inr e) =
+            subst (λ (z : List Valuation). leaf_count p z ≤ 65536) (sym (ap (λ (k : ℕ). take k (pr.full ++ output ∷ [])) e ∙ take-append_seam pr.full (output ∷ [])))
+            (subst (λ (k : ℕ). k ≤ 65536) count_same fits)
+
+  pub ended_whole : (start left new : Option (List ℕ)) (line o e : List ℕ) (b : BookView) (s : Status) → IfSome start (λ trace. Progress p trace left b) → ReadsLine left new line (Ok line_ends.End)
+      → s ≡ status_of ends.Whole → o ≡ store_lines b.program b.outs → e ≡ end_line (length b.ins) ends.Whole → IfSome start (λ trace. RunAnswer p (lines_of trace) s o e)
+  ended_whole None left new line o e b s pr r es eo ee = tt
+  ended_whole (Some trace) left new line o e b s pr r es eo ee =
+      let h = subst (λ (l : Option (List ℕ)). ReadsLine l new line (Ok line_ends.End)) pr.known r in
       let all : lines_of trace ≡ pr.done = pr.lines ∙ ap (λ bs. pr.done ++ lines_of bs) h.0 ∙ append-nil pr.done in
-      ended trace o e left n statuses.Ok pr few (sym pr.count ∙ ap length (sym all), none)
+      ended trace left b pr ends.Whole s o e (full_long trace left b pr ∙ long trace left b pr ∙ ap length (sym all)) es eo ee
 
-  -- the first line that is left stops the run
-  stopped : (trace o e line rest : List ℕ) (left : Option (List ℕ)) (n : ℕ) (pr : Progress p trace left n o) → lines_of pr.rest ≡ line ∷ lines_of rest → Stops p n line → e ≡ trace_line n → n ≤ 65536
-      → RunAnswer p (lines_of trace) statuses.Trace o e
-  stopped trace o e line rest left n pr first stop er few =
-      let all : lines_of trace ≡ pr.done ++ (line ∷ lines_of rest) = pr.lines ∙ ap (λ ls. pr.done ++ ls) first in
-      ended trace o e left n statuses.Trace pr few
-      (line, ap (λ (k : ℕ). slice_get (lines_of trace) k) (sym pr.count) ∙ ap (λ ls. slice_get ls (length pr.done)) all ∙ at_seam pr.done line (lines_of rest), stop, er)
-
-  pub stopped_line : (start left new : Option (List ℕ)) (line o e : List ℕ) (n : ℕ) → IfSome start (λ trace. Progress p trace left n o) → ReadsLine left new line (Ok ends.Line) → Stops p n line → e ≡ trace_line n → n ≤ 65536
-      → IfSome start (λ trace. RunAnswer p (lines_of trace) statuses.Trace o e)
-  stopped_line None left new line o e n pr r stop er few = tt
-  stopped_line (Some trace) left new line o e n pr r stop er few =
-      let h = subst (λ (l : Option (List ℕ)). ReadsLine l new line (Ok ends.Line)) pr.known r in
-      stopped trace o e line h.0 left n pr h.1.lines stop er few
+  pub ended_at : (start left new : Option (List ℕ)) (line o e : List ℕ) (b after : BookView) (end : End) (s : Status) → IfSome start (λ trace. Progress p trace left b) → ReadsLine left new line (Ok line_ends.Line)
+      → EndsAt b after line end → s ≡ status_of end → o ≡ store_lines after.program after.outs → e ≡ end_line (length after.ins) end → IfSome start (λ trace. RunAnswer p (lines_of trace) s o e)
+  ended_at None left new line o e b after end s pr r at es eo ee = tt
+  ended_at (Some trace) left new line o e b after end s pr r at es eo ee =
+      let h = subst (λ (l : Option (List ℕ)). ReadsLine l new line (Ok line_ends.Line)) pr.known r in
+      let same = same_after trace left b pr after line end at in
+      ended trace left b pr end s o e (ends_at trace left b pr after line h.0 end h.1.lines h.2 at) es
+      (eo ∙ ap (λ (x : BookView). store_lines x.program x.outs) same) (ee ∙ ap (λ (x : BookView). end_line (length x.ins) end) same)
 
   -- a line that is too long has a feed or an end behind it
   long_line : (bytes : List ℕ) → 32768 < length (first_line bytes) → (rest : List ℕ) × (lines_of bytes ≡ first_line bytes ∷ lines_of rest)
-  long_line bytes long = (after_line bytes, lines-first bytes (not_empty bytes long))
+  long_line bytes over = (after_line bytes, lines-first bytes (not_empty bytes over))
     where
       not_empty : (bs : List ℕ) → 32768 < length (first_line bs) → bs ≢ []
       not_empty [] h e = omega arith
       not_empty (b ∷ bs) h e = cc
 
-  pub stopped_long : (start left new : Option (List ℕ)) (line o e : List ℕ) (n : ℕ) → IfSome start (λ trace. Progress p trace left n o) → ReadsLine left new line (Err stops.TooLong) → e ≡ trace_line n → n ≤ 65536
-      → IfSome start (λ trace. RunAnswer p (lines_of trace) statuses.Trace o e)
-  stopped_long None left new line o e n pr r er few = tt
-  stopped_long (Some trace) left new line o e n pr r er few =
+  pub ended_long : (start left new : Option (List ℕ)) (line o e : List ℕ) (b : BookView) (s : Status) → IfSome start (λ trace. Progress p trace left b) → ReadsLine left new line (Err stops.TooLong)
+      → s ≡ status_of ends.Line → o ≡ store_lines b.program b.outs → e ≡ end_line (length b.ins) ends.Line → IfSome start (λ trace. RunAnswer p (lines_of trace) s o e)
+  ended_long None left new line o e b s pr r es eo ee = tt
+  ended_long (Some trace) left new line o e b s pr r es eo ee =
       let h = subst (λ (l : Option (List ℕ)). ReadsLine l new line (Err stops.TooLong)) pr.known r in
       let first = long_line pr.rest h.0 in
-      stopped trace o e (first_line pr.rest) first.0 left n pr first.1 (inl h.0) er few
+      ended trace left b pr ends.Line s o e (first_line pr.rest, line_there trace left b pr (first_line pr.rest) first.0 first.1, inl h.0) es eo ee
 
   -- a line goes on
-  pub goes_on : (start left new : Option (List ℕ)) (line o o' : List ℕ) (n : ℕ) → IfSome start (λ trace. Progress p trace left n o) → ReadsLine left new line (Ok ends.Line) → Goes p n line o o'
-      → IfSome start (λ trace. Progress p trace new (n + 1) o')
-  goes_on None left new line o o' n pr r g = tt
-  goes_on (Some trace) left new line o o' n pr r g =
-      let h = subst (λ (l : Option (List ℕ)). ReadsLine l new line (Ok ends.Line)) pr.known r in
+  pub goes_on : (start left new : Option (List ℕ)) (line : List ℕ) (b after : BookView) → IfSome start (λ trace. Progress p trace left b) → ReadsLine left new line (Ok line_ends.Line) → Goes b after line
+      → IfSome start (λ trace. Progress p trace new after)
+  goes_on None left new line b after pr r g = tt
+  goes_on (Some trace) left new line b after pr r g =
+      let h = subst (λ (l : Option (List ℕ)). ReadsLine l new line (Ok line_ends.Line)) pr.known r in
+      let c = g.closes in
       record {
         done = pr.done ++ line ∷ [];
-        ins = pr.ins ++ g.input ∷ [];
-        outs = pr.outs ++ g.output ∷ [];
+        full = pr.full ++ c.output ∷ [];
         rest = h.0;
         known = h.3;
-        count = length-append pr.done (line ∷ []) ∙ ap (λ (k : ℕ). k + 1) pr.count;
         lines = pr.lines ∙ ap (λ ls. pr.done ++ ls) h.1.lines ∙ sym (append_assoc pr.done (line ∷ []) (lines_of h.0));
-        given = given_more pr.done pr.ins line g.input pr.given h.2 g.given;
-        run = run-push p pr.ins pr.outs g.input g.output pr.run (g.out pr.outs (pr.run.whole ∙ given_long pr.done pr.ins pr.given ∙ pr.count));
-        written = g.appended ∙ append_assoc o (store_line p g.output) (10 ∷ []) ∙ ap (λ (xs : List ℕ). xs ++ (store_line p g.output ++ 10 ∷ [])) pr.written
-            ∙ sym (flat_map-append (λ v. store_line p v ++ 10 ∷ []) pr.outs (g.output ∷ []) ∙ ap (λ (ys : List ℕ). store_lines p pr.outs ++ ys) (append-nil (store_line p g.output ++ 10 ∷ [])));
+        program = c.closed.program ∙ pr.program;
+        few = let few = g.few in let more = ap length c.closed.ins ∙ length-append b.ins (g.input ∷ []) in omega arith;
+        given = subst (GiveInputs p (pr.done ++ line ∷ [])) (sym c.closed.ins) (given_more pr.done b.ins line g.input pr.given h.2 (subst (λ (q : CoreProgram). GivesInput q line g.input) pr.program g.given));
+        keeps = c.keeps pr.full pr.keeps;
+        small = small_more trace left b pr c.output c.small;
       }
 
 -- nothing is left of the source where nothing is waiting
@@ -164,19 +215,12 @@ none_waiting None pending e = cc
 none_waiting (Some bs) [] e = e
 none_waiting (Some bs) (x ∷ pending) e = absurd (cc)
 
-pub ended_source : (p : CoreProgram) (n : ℕ) (o : List ℕ) (start waiting left : Option (List ℕ)) (pending line : List ℕ)
-    → IfSome start (λ trace. Progress p trace waiting n o) → ReadsLine waiting (prepend_known pending left) line (Ok ends.End) → OnSome start (left ≡ Some [])
-ended_source p n o None waiting left pending line pr r = tt
-ended_source p n o (Some trace) waiting left pending line pr r =
-    let h = subst (λ (l : Option (List ℕ)). ReadsLine l (prepend_known pending left) line (Ok ends.End)) pr.known r in
+pub ended_source : (p : CoreProgram) (b : BookView) (start waiting left : Option (List ℕ)) (pending line : List ℕ)
+    → IfSome start (λ trace. Progress p trace waiting b) → ReadsLine waiting (prepend_known pending left) line (Ok line_ends.End) → OnSome start (left ≡ Some [])
+ended_source p b None waiting left pending line pr r = tt
+ended_source p b (Some trace) waiting left pending line pr r =
+    let h = subst (λ (l : Option (List ℕ)). ReadsLine l (prepend_known pending left) line (Ok line_ends.End)) pr.known r in
     none_waiting left pending h.1
-
-pub as_answer : (p : CoreProgram) (start : Option (List ℕ)) (s s' : Status) (o o' e e' : List ℕ) → s ≡ s' → o ≡ o' → e ≡ e'
-    → IfSome start (λ trace. RunAnswer p (lines_of trace) s' o' e') → IfSome start (λ trace. RunAnswer p (lines_of trace) s o e)
-as_answer p None s s' o o' e e' es eo ee h = tt
-as_answer p (Some trace) s s' o o' e e' es eo ee h =
-    subst (λ (x : Status). RunAnswer p (lines_of trace) x o e) (sym es)
-    (subst (λ (x : List ℕ). RunAnswer p (lines_of trace) s' x e) (sym eo) (subst (λ (x : List ℕ). RunAnswer p (lines_of trace) s' o' x) (sym ee) h))
 
 -- a text that does not run is refused
 pub refuses : (start new : Option (List ℕ)) (text : List ℕ) (end : TextEnd) (s : Status) (o e : List ℕ) → ReadsText start new text (Ok end) → Refuses text e → s ≡ statuses.Program → o ≡ [] → IfSome start (λ bytes. AnswersRun bytes s o e)

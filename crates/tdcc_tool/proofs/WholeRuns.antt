@@ -1,7 +1,8 @@
 -- A run all of whose lines give inputs goes to its end.
-use Rattle.std.proofs.Common.{◌≡◌, ℕ, zero, suc, ◌<◌, ◌≤◌, List, [], ◌∷◌, length, Some, None, refl, sym, subst, arith, inl, inr}
+use Rattle.std.proofs.Common.{◌≡◌, ℕ, zero, suc, ◌<◌, ◌≤◌, List, [], ◌∷◌, length, take, Some, None, refl, sym, ap, ◌∙◌, subst, arith, inl, inr}
 use Rattle.std.specs.Prelude.{slice_get, String, IfSome, IsOk, Option, Result}
 use Rattle.std.specs.declared.alloc.Global.{Global}
+use Rattle.std.proofs.lemmas.List.{length-take-le, take_all}
 use Rattle.tdcc_base.specs.declared.status.Status.{Status}
 use Rattle.tdcc_base.specs.declared.status.Status.TheVariants as statuses
 use Rattle.tdcc_base.specs.Promises.{TakesAllWithin}
@@ -9,11 +10,18 @@ use Rattle.tdcc_base.specs.Texts.{text_of, trace_of}
 use Rattle.tdcc_base.specs.Lines.{lines_of}
 use Rattle.token_system.specs.Stores.{Valuation}
 use Rattle.agent_core.specs.Programs.{CoreProgram}
+use Rattle.agent_core.specs.Outputs.{IsRun}
+use Rattle.agent_laws.proofs.Runs.{one_run}
+use Rattle.tdcc_tool.specs.declared.answer.End.{End}
+use Rattle.tdcc_tool.specs.declared.answer.End.TheVariants as ends
 use Rattle.tdcc_tool.specs.Inputs.{GivesInput}
-use Rattle.tdcc_tool.specs.Answers.{GiveInputs, Ends, AnswersRun}
+use Rattle.tdcc_tool.specs.RunEnds.{Stops, EndsBy, status_of}
+use Rattle.tdcc_tool.specs.Answers.{GiveInputs, AreSmall, AnswersRun}
 use Rattle.tdcc_tool.specs.Completeness.{IsRunnable, EndsWhole, IsRoomFor}
-use Rattle.tdcc_tool.proofs.AcceptedPrograms.{one_accepted}
-use Rattle.tdcc_tool.proofs.OneAnswer.{no_stop, refused_runs_not}
+use Rattle.tdcc_tool.proofs.AcceptedPrograms.{accepted_program, one_accepted}
+use Rattle.tdcc_tool.proofs.OneAnswer.{refused_runs_not}
+use Rattle.tdcc_tool.proofs.RunAnswers.{no_stop, within, same_front, run-front}
+use Rattle.tdcc_tool.proofs.RunSteps.{given_long}
 
 module _ (p : CoreProgram) where
   -- the line at each place gives an input
@@ -25,24 +33,46 @@ module _ (p : CoreProgram) where
   given_at (l ∷ lines) (i ∷ ins) zero line all e = let same : l ≡ line = cc in (omega arith, i, subst (λ (x : List ℕ). GivesInput p x i) same all.1, subst (λ (x : List ℕ). length x ≤ 32768) same all.0)
   given_at (l ∷ lines) (i ∷ ins) (suc n) line all e = let h = given_at lines ins n line all.2 e in let lt = h.0 in (omega arith, h.1, h.2, h.3)
 
-  ends_whole : (lines : List (List ℕ)) (ins : List Valuation) (n : ℕ) (s : Status) (e : List ℕ) → GiveInputs p lines ins → length ins ≤ 65536 → Ends p lines n s e → s ≡ statuses.Ok
-  ends_whole lines ins n statuses.Ok e all few h = refl
-  ends_whole lines ins n statuses.Trace e all few (line, at, stop, text) =
-      let g = given_at lines ins n line all at in let lt = g.0 in absurd (no_stop p n line (let h : n < 65536 = omega arith in h) (g.1, g.2, g.3) stop)
-  ends_whole lines ins n statuses.No e all few h = absurd h
-  ends_whole lines ins n statuses.Usage e all few h = absurd h
-  ends_whole lines ins n statuses.Program e all few h = absurd h
-  ends_whole lines ins n statuses.Fuel e all few h = absurd h
-  ends_whole lines ins n statuses.Net e all few h = absurd h
-  ends_whole lines ins n statuses.Read e all few h = absurd h
-  ends_whole lines ins n statuses.Write e all few h = absurd h
-  ends_whole lines ins n statuses.Memory e all few h = absurd h
+  -- such a run ends at the end of the trace
+  ends_whole : (lines : List (List ℕ)) (ins outs : List Valuation) (n : ℕ) (e : End) → GiveInputs p lines ins → length ins ≤ 65536 → length outs ≡ length ins → AreSmall p outs → n ≤ length ins
+      → EndsBy p lines (take n outs) e → e ≡ ends.Whole
+  ends_whole lines ins outs n ends.Whole all few whole small le h = refl
+  ends_whole lines ins outs n ends.Line all few whole small le h =
+      let long = length-take-le n outs (let k : n ≤ length outs = omega (arith, whole) in k) in
+      let g = given_at lines ins n h.0 all (subst (λ (k : ℕ). slice_get lines k ≡ Some h.0) long h.1) in
+      let lt = g.0 in
+      absurd (no_stop p n h.0 (let k : n < 65536 = omega arith in k) (g.1, g.2, g.3) (subst (λ (k : ℕ). Stops p k h.0) long h.2))
+  ends_whole lines ins outs n (ends.Net count) all few whole small le h =
+      let long = length-take-le n outs (let k : n ≤ length outs = omega (arith, whole) in k) in
+      let g = given_at lines ins n h.0 all (subst (λ (k : ℕ). slice_get lines k ≡ Some h.0) long h.1) in
+      let lt = g.0 in
+      let fits = small n (let k : n < length outs = omega (arith, whole) in k) in
+      let over = h.4 in
+      let same = h.3 in
+      absurd (omega (arith, fits, over, same))
+
+  -- as many inputs are no more than the lines
+  front_long : (lines : List (List ℕ)) (ins : List Valuation) (n : ℕ) → GiveInputs p lines ins → n ≤ length lines → n ≤ length ins
+  front_long lines ins n all le = let e = given_long p lines ins all in omega arith
 
 whole_status : (words : List (String Global)) (bytes : List ℕ) (s : Status) (o e : List ℕ) → AnswersRun bytes s o e → IsRunnable words bytes → s ≡ statuses.Ok
 whole_status words bytes s o e (inl refusal) r = absurd (refused_runs_not (text_of bytes) e r.program refusal.why r.accepted)
-whole_status words bytes s o e (inr (p, accepted, answer)) r =
-    let same : r.program ≡ p = one_accepted (text_of bytes) r.program p r.accepted accepted in
-    ends_whole p (lines_of (trace_of bytes)) r.inputs (length answer.ins) s e (subst (λ (q : CoreProgram). GiveInputs q (lines_of (trace_of bytes)) r.inputs) same r.given) r.few answer.ends
+whole_status words bytes s o e (inr (p, accepted, answer)) r = answer.status_is ∙ ap status_of (go r.program r.outputs (one_accepted (text_of bytes) r.program p r.accepted accepted) r.given r.run r.small)
+  where
+    lines : List (List ℕ)
+    lines = lines_of (trace_of bytes)
+
+    go : (q : CoreProgram) (outputs : List Valuation) → q ≡ p → GiveInputs q lines r.inputs → IsRun q r.inputs outputs → AreSmall q outputs → answer.end ≡ ends.Whole
+    go q outputs same given run small =
+        let given' = subst (λ (x : CoreProgram). GiveInputs x lines r.inputs) same given in
+        let run' = subst (λ (x : CoreProgram). IsRun x r.inputs outputs) same run in
+        let small' = subst (λ (x : CoreProgram). AreSmall x outputs) same small in
+        let le : length answer.ins ≤ length r.inputs = front_long p lines r.inputs (length answer.ins) given' (within p lines answer.ins answer.given) in
+        let all : take (length r.inputs) lines ≡ lines = take_all (length r.inputs) lines (let e = given_long p lines r.inputs given' in omega arith) in
+        let front = same_front p lines answer.ins r.inputs answer.given (subst (λ (ls : List (List ℕ)). GiveInputs p ls r.inputs) (sym all) given') le in
+        let outs : answer.outs ≡ take (length answer.ins) outputs = one_run p accepted.table (accepted_program (text_of bytes) p accepted) accepted.stratified answer.ins answer.outs (take (length answer.ins) outputs) answer.run
+        (subst (λ (xs : List Valuation). IsRun p xs (take (length answer.ins) outputs)) (sym front) (run-front p r.inputs outputs (length answer.ins) le run')) in
+        ends_whole p lines r.inputs outputs (length answer.ins) answer.end given' r.few run'.whole small' le (subst (λ (z : List Valuation). EndsBy p lines z answer.end) outs answer.ends)
 
 -- an answer to such an input is its end
 pub runs_whole : (words : List (String Global)) (left : Option (List ℕ)) (s : Status) (o e : List ℕ) (source_failed sink_failed : Type 0) → IfSome left (λ bytes. AnswersRun bytes s o e)

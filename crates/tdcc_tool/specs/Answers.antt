@@ -1,5 +1,5 @@
 -- What the tool answers to its words and the bytes of its source: a status, the bytes for out and the bytes for err. This project's own.
-use Rattle.std.specs.Prelude.{◌≡◌, ◌⊎◌, ℕ, ◌<◌, ◌≤◌, List, [], ◌∷◌, ◌++◌, length, map, flat_map, take, slice_get, Some, codes, String, string_bytes}
+use Rattle.std.specs.Prelude.{◌≡◌, ◌⊎◌, ℕ, ◌<◌, ◌≤◌, List, [], ◌∷◌, ◌++◌, length, map, flat_map, take, codes, String, string_bytes}
 use Rattle.std.specs.declared.alloc.Global.{Global}
 use Rattle.tdcc_base.specs.declared.status.Status.{Status}
 use Rattle.tdcc_base.specs.declared.status.Status.TheVariants as statuses
@@ -8,11 +8,13 @@ use Rattle.tdcc_base.specs.Texts.{text_of, trace_of}
 use Rattle.token_system.specs.Stores.{Valuation}
 use Rattle.agent_core.specs.Programs.{CoreProgram}
 use Rattle.agent_core.specs.Outputs.{IsRun}
-use Rattle.tdcc_tool.specs.Messages.{usage_line, program_line, strata_line, trace_line}
+use Rattle.tdcc_tool.specs.declared.answer.End.{End}
+use Rattle.tdcc_tool.specs.Messages.{usage_line, program_line, strata_line}
 use Rattle.tdcc_tool.specs.Accepted.{IsBuilt, Accepts}
 use Rattle.tdcc_tool.specs.Readings.{IsRefusedCase}
 use Rattle.tdcc_tool.specs.Inputs.{GivesInput}
 use Rattle.tdcc_tool.specs.StoreLines.{store_line}
+use Rattle.tdcc_tool.specs.RunEnds.{leaf_count, EndsBy, status_of, end_line}
 
 -- each of these lines is within its limit of bytes, and gives the input at its place
 abbrev pub GiveInputs : CoreProgram → List (List ℕ) → List Valuation → Type 0
@@ -21,29 +23,27 @@ GiveInputs p (line ∷ lines) (i ∷ ins) = (length line ≤ 32768) × GivesInpu
 GiveInputs p [] (i ∷ ins) = ⊥
 GiveInputs p (line ∷ lines) [] = ⊥
 
--- the line of instant n stops the run: it is too long, one too many, or gives no input
-abbrev pub Stops : CoreProgram → ℕ → List ℕ → Type 0
-Stops p n line = (32768 < length line) ⊎ ((n ≡ 65536) ⊎ ((i : Valuation) → GivesInput p line i → ⊥))
-
--- how a run over these lines ends after n of them: at their end, or at a line that stops it
-abbrev pub Ends : CoreProgram → List (List ℕ) → ℕ → Status → List ℕ → Type 0
-Ends p lines n statuses.Ok err = (n ≡ length lines) × (err ≡ [])
-Ends p lines n statuses.Trace err = (line : List ℕ) × (slice_get lines n ≡ Some line) × Stops p n line × (err ≡ trace_line n)
-Ends p lines n _ err = ⊥
+-- each instant that has one of these outputs has at most as many leaves as an instant may have
+abbrev pub AreSmall : CoreProgram → List Valuation → Type 0
+AreSmall p outs = (n : ℕ) → n < length outs → leaf_count p (take n outs) ≤ 65536
 
 -- the lines of some stores
 abbrev pub store_lines : CoreProgram → List Valuation → List ℕ
 store_lines p outs = flat_map (λ v. store_line p v ++ 10 ∷ []) outs
 
--- The answer of a program to the lines of a trace: the store lines of the run on the inputs of the lines that do not stop it.
+-- The answer of a program to the lines of a trace: the store lines of the run on the inputs of the lines, up to the end of the trace, to the first line that stops it, or to the first instant that has too many leaves.
 pub record RunAnswer (p : CoreProgram) (lines : List (List ℕ)) (status : Status) (out err : List ℕ) : Type 0 where
   pub ins : List Valuation
   pub outs : List Valuation
   pub few : length ins ≤ 65536
   pub given : GiveInputs p (take (length ins) lines) ins
   pub run : IsRun p ins outs
+  pub small : AreSmall p outs
   pub written : out ≡ store_lines p outs
-  pub ends : Ends p lines (length ins) status err
+  pub end : End
+  pub ends : EndsBy p lines outs end
+  pub status_is : status ≡ status_of end
+  pub told : err ≡ end_line (length outs) end
 
 -- why a text does not run, with the line that says so: it is that of no program that is built, or its program is not stratified
 abbrev pub Refuses : List ℕ → List ℕ → Type 0

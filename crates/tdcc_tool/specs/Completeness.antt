@@ -7,10 +7,11 @@ use Rattle.tdcc_base.specs.declared.status.Status.{Status}
 use Rattle.tdcc_base.specs.declared.status.Status.TheVariants as statuses
 use Rattle.token_system.specs.Stores.{Valuation}
 use Rattle.agent_core.specs.Programs.{CoreProgram}
+use Rattle.agent_core.specs.Outputs.{IsRun}
 use Rattle.tdcc_tool.specs.Accepted.{Accepts}
-use Rattle.tdcc_tool.specs.Answers.{GiveInputs, IsRunCommand}
+use Rattle.tdcc_tool.specs.Answers.{GiveInputs, AreSmall, IsRunCommand}
 
--- the words are those of `run`, the text is a program that runs, and each line of the trace, of which there are not too many, gives an input
+-- the words are those of `run`, the text is a program that runs, each line of the trace, of which there are not too many, gives an input, and no instant of the run on these has too many leaves
 pub record IsRunnable (words : List (String Global)) (bytes : List ℕ) : Type 0 where
   pub command : IsRunCommand words
   pub program : CoreProgram
@@ -18,6 +19,9 @@ pub record IsRunnable (words : List (String Global)) (bytes : List ℕ) : Type 0
   pub inputs : List Valuation
   pub few : length inputs ≤ 65536
   pub given : GiveInputs program (lines_of (trace_of bytes)) inputs
+  pub outputs : List Valuation
+  pub run : IsRun program inputs outputs
+  pub small : AreSmall program outputs
 
 -- the run went to its end, or memory ran out, or the source or the sink failed for this reason
 abbrev pub EndsWhole : Status → Type 0 → Type 0 → Type 0

@@ -14,11 +14,11 @@ abbrev pub IsRunEnd : Status → Type 0
 IsRunEnd statuses.Ok = Unit {0}
 IsRunEnd statuses.Program = Unit {0}
 IsRunEnd statuses.Trace = Unit {0}
+IsRunEnd statuses.Net = Unit {0}
 IsRunEnd _ = ⊥
 
 -- what the tool may end with
 abbrev pub IsToolStatus : Status → Type 0
 IsToolStatus statuses.No = ⊥
 IsToolStatus statuses.Fuel = ⊥
-IsToolStatus statuses.Net = ⊥
 IsToolStatus _ = Unit {0}

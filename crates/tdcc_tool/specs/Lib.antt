@@ -2,14 +2,14 @@ pub mod Messages
 pub mod Signals
 pub mod Inputs
 pub mod StoreLines
-pub mod Momentary
 pub mod Accepted
 pub mod Faults
 pub mod Readings
 pub mod Tellings
+pub mod RunEnds
 pub mod Answers
 pub mod Cuts
 pub mod Completeness
-pub mod Instants
+pub mod Steps
 pub mod Ends
 pub mod Laws

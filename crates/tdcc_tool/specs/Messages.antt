@@ -29,6 +29,10 @@ strata_line p guard told node =
 abbrev pub trace_line : ℕ → List ℕ
 trace_line n = message (codes "trace: instant " ++ decimal n ++ codes ": bad token at offset 0")
 
+-- instant n has this many leaves, which are more than an instant may have
+abbrev pub net_line : ℕ → ℕ → List ℕ
+net_line n leaves = message (codes "net: instant " ++ decimal n ++ codes ": " ++ decimal leaves ++ codes " leaves")
+
 -- the source failed
 abbrev pub read_line : List ℕ
 read_line = message (codes "read fault")

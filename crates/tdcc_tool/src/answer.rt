@@ -1,7 +1,12 @@
-ghost use Rattle.std.specs.Prelude.{◌≡◌, [], IfOk, slice_get};
-ghost use Rattle.tdcc_tool.specs.Messages.{cell_name, program_line, strata_line, trace_line};
+//! What a run ends with, and what is written then.
+ghost use Rattle.std.specs.Prelude.{◌≡◌, [], IfOk, length, slice_get};
+ghost use Rattle.tdcc_tool.specs.Answers.{store_lines};
+ghost use Rattle.tdcc_tool.specs.Messages.{cell_name, program_line, strata_line};
+ghost use Rattle.tdcc_tool.specs.RunEnds.{end_line, status_of};
 
+use crate::store_line::write_stores;
 use agent_core::Program;
+use run_book::Book;
 use std::alloc::{AllocError, AllocFailed, Global};
 use tdcc_base::Status;
 use token_system::Memory;
@@ -12,6 +17,30 @@ pub struct Answer {
     pub status: Status,
     pub out: Vec<u8>,
     pub err: Vec<u8>,
+}
+
+/// How a run ends.
+#[derive(Clone, Copy, Debug, PartialEq, Eq)]
+pub enum End {
+    /// Every line of the trace was answered.
+    Whole,
+    /// A line gives no input, is too long, or is one too many.
+    Line,
+    /// The instant has more leaves than an instant may have: so many.
+    Net { leaves: u64 },
+}
+
+impl End {
+    /// The status of a call whose run ends so.
+    fn status(self) -> Status
+        ensures { result ≡ status_of self }
+    {
+        match self {
+            End::Whole => Status::Ok,
+            End::Line => Status::Trace,
+            End::Net { .. } => Status::Net,
+        }
+    }
 }
 
 /// Why there is no answer.
@@ -94,31 +123,31 @@ pub fn refused_case(
     })
 }
 
-/// The answer where the line of this instant stops the run, after these lines were written.
-pub fn refused_line(alloc: Global, instant: usize, out: Vec<u8>) -> Result<Answer, Memory>
-    ensures status { IfOk result (λ a. a.status ≡ Status.Trace) }
-    ensures out { IfOk result (λ a. a.out.items ≡ out.items) }
-    ensures err { IfOk result (λ a. a.err.items ≡ trace_line instant) }
+/// The line for err where a run ends so at this instant.
+fn line_of(alloc: Global, instant: u32, end: End) -> Result<Vec<u8>, Memory>
+    ensures { IfOk result (λ line. line.items ≡ end_line instant end) }
 {
-    let line = format!(in alloc; "tdcc: trace: instant {instant}: bad token at offset 0\n")?;
-    let mut err = Vec::new(alloc);
-    err.extend_from_slice(line.as_bytes())?;
+    let text = match end {
+        End::Whole => return Ok(Vec::new(alloc)),
+        End::Line => format!(in alloc; "tdcc: trace: instant {instant}: bad token at offset 0\n")?,
+        End::Net { leaves } => format!(in alloc;
+            "tdcc: net: instant {instant}: {leaves} leaves\n"
+        )?,
+    };
+    Ok(text.as_bytes().to_vec(alloc)?)
+}
+
+/// The answer of the run that the book keeps, where it ends so.
+pub fn finish(alloc: Global, book: &Book, end: End) -> Result<Answer, Memory>
+    ensures status { IfOk result (λ a. a.status ≡ status_of end) }
+    ensures out { IfOk result (λ a. a.out.items ≡ store_lines book.now.program book.now.outs) }
+    ensures err { IfOk result (λ a. a.err.items ≡ end_line (length book.now.ins) end) }
+{
+    let out = write_stores(alloc, book.program(), book.outs())?;
+    let err = line_of(alloc, book.instants(), end)?;
     Ok(Answer {
-        status: Status::Trace,
+        status: end.status(),
         out,
         err,
     })
-}
-
-/// The answer where the whole trace was run.
-pub fn ran_to_end(alloc: Global, out: Vec<u8>) -> Answer
-    ensures status { result.status ≡ Status.Ok }
-    ensures out { result.out.items ≡ out.items }
-    ensures err { result.err.items ≡ [] }
-{
-    Answer {
-        status: Status::Ok,
-        out,
-        err: Vec::new(alloc),
-    }
 }

@@ -1,6 +1,6 @@
 ghost use Rattle.std.specs.Prelude.{List, ℕ};
 ghost use Rattle.tdcc_tool.specs.Answers.{HaveOneAnswer};
-ghost use Rattle.tdcc_tool.specs.Laws.{AcceptedHaveOneOutput, LaterOutputsAreInputs};
+ghost use Rattle.tdcc_tool.specs.Laws.{AcceptedHaveOneOutput, AcceptedHaveOneRun};
 
 /// The words and the bytes of the source have at most one answer, so that the answer that `tdcc`
 /// gives is the only one.
@@ -10,11 +10,11 @@ pub fn answer_law(words: &[String])
     let _ = words.len();
 }
 
-/// A program of this form has exactly one output at each instant: at the first the least store above
-/// the input under which it rests, and later the input.
+/// The program of an accepted text has exactly one output at each instant, after whatever closed stores,
+/// and exactly one run on each list of inputs.
 pub fn output_law(text: &[u8])
-    ensures one { AcceptedHaveOneOutput text.now }
-    ensures later { LaterOutputsAreInputs text.now }
+    ensures output { AcceptedHaveOneOutput text.now }
+    ensures run { AcceptedHaveOneRun text.now }
 {
     let _ = text.len();
 }

@@ -5,14 +5,13 @@ ghost use Rattle.tdcc_reader.specs.Surfaces.{SurfaceProgram};
 ghost use Rattle.tdcc_reader.specs.Texts.{ReadsAs};
 ghost use Rattle.derived_forms.specs.Expansions.{IsExpansion};
 ghost use Rattle.tdcc_tool.specs.declared.answer.Stop as Stop;
-ghost use Rattle.tdcc_tool.specs.Accepted.{IsBuilt, IsBuiltForm};
+ghost use Rattle.tdcc_tool.specs.Accepted.{IsBuilt};
 ghost use Rattle.tdcc_tool.specs.Faults.{is_memory as is_memory_of};
-ghost use Rattle.tdcc_tool.specs.Momentary.{is_momentary_node};
 ghost use Rattle.tdcc_tool.specs.Readings.{IsReadingOf};
-ghost use Rattle.tdcc_tool.specs.Signals.{is_signal_kind};
+ghost use Rattle.tdcc_tool.specs.Signals.{HasSignalsOnly, is_signal_kind};
 
 use crate::answer::Stop;
-use agent_core::{CellDecl, Levels, Node, Program};
+use agent_core::{CellDecl, Levels, Program};
 use derived_forms::{ExpandFault, expand};
 use std::alloc::Global;
 use strata::{StrataFault, strata};
@@ -38,23 +37,6 @@ pub enum Reading {
     },
 }
 
-/// Whether the node leaves nothing for later instants and has no local cell.
-fn is_momentary(node: &Node) -> bool
-    ensures { result ≡ is_momentary_node node.now }
-{
-    match node {
-        Node::New { .. } | Node::Hence { .. } | Node::Next { .. } => false,
-        _ => true,
-    }
-}
-
-/// Whether each of the nodes does.
-fn are_momentary(nodes: &[Node]) -> bool
-    ensures { result ≡ list_all is_momentary_node nodes.now }
-{
-    nodes.iter().all(|node| is_momentary(node))
-}
-
 /// Whether each of the cells is a signal.
 fn are_signals(cells: &[CellDecl]) -> bool
     ensures { result ≡ list_all (λ decl. is_signal_kind decl.cell.kind) cells.now }
@@ -62,11 +44,11 @@ fn are_signals(cells: &[CellDecl]) -> bool
     cells.iter().all(|decl| decl.cell.kind == Kind::Signal)
 }
 
-/// Whether a program is of the form that is built.
-fn is_built_form(program: &Program) -> bool
-    ensures { IsTrue result ↔ IsBuiltForm program.now }
+/// Whether a program has signals only.
+fn has_signals_only(program: &Program) -> bool
+    ensures { IsTrue result ↔ HasSignalsOnly program.now }
 {
-    are_momentary(program.nodes()) && are_signals(program.cells())
+    are_signals(program.cells())
 }
 
 /// Whether the refusal is want of memory.
@@ -105,7 +87,7 @@ fn program_of(alloc: Global, surface: &Surface) -> Result<Option<Program>, Stop>
     }
 }
 
-/// The program of a text, where it is within the limits and of the form that is built.
+/// The program of a text, where it is within the limits and has signals only.
 fn built_program(alloc: Global, text: &[u8]) -> Result<Option<Program>, Stop>
     ensures found { IfOk result (λ found. MatchOption found ((p : CoreProgram) → IsBuilt text.now p → ⊥) (IsBuilt text.now)) }
     ensures only { IfErr result (λ stop. stop ≡ Stop.Memory) }
@@ -116,7 +98,7 @@ fn built_program(alloc: Global, text: &[u8]) -> Result<Option<Program>, Stop>
     let Some(program) = program_of(alloc, &surface)? else {
         return Ok(None);
     };
-    if is_built_form(&program) {
+    if has_signals_only(&program) {
         Ok(Some(program))
     } else {
         Ok(None)

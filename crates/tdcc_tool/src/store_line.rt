@@ -1,9 +1,11 @@
 ghost use Rattle.std.specs.Prelude.{◌≡◌, ◌++◌, IfOk, OnOk};
 ghost use Rattle.std.specs.Option.{option_map};
 ghost use Rattle.token_system.specs.Stores.{value_at};
+ghost use Rattle.tdcc_tool.specs.Answers.{store_lines};
 ghost use Rattle.tdcc_tool.specs.StoreLines.{store_line, cell_text, mark_of as mark_of_value, Grows};
 
 use agent_core::{CellDecl, Program};
+use std::alloc::Global;
 use token_system::{Cell, CellName, Memory, Store, Value, bottom};
 
 /// What stands before the name of a signal of this value, where it is written.
@@ -57,4 +59,16 @@ pub fn write_store(program: &Program, store: &Store, into: &mut Vec<u8>) -> Resu
         started = write_cell(decl, value, started, into)?;
     }
     Ok(())
+}
+
+/// The lines of some stores, each with its line feed.
+pub fn write_stores(alloc: Global, program: &Program, stores: &[Store]) -> Result<Vec<u8>, Memory>
+    ensures { IfOk result (λ lines. lines.items ≡ store_lines program.now stores.now) }
+{
+    let mut lines = Vec::new(alloc);
+    for store in stores {
+        write_store(program, store, &mut lines)?;
+        lines.push(b'\n')?;
+    }
+    Ok(lines)
 }

@@ -3,6 +3,7 @@ ghost use Rattle.std.specs.Prelude.{◌<◌};
 
 mod devices;
 mod lines;
+mod over_time;
 mod programs;
 
 use crate::tdcc;

@@ -77,10 +77,9 @@ fn texts_of_other_forms_are_refused(rt: HostRuntime) -> Result<(), Fail> {
     let alloc = rt.alloc();
     for text in [
         "signal a, b; always if a else b\n%%\n\na\n",
-        "signal a; hence a",
-        "signal a; next a",
-        "new signal a in a",
+        "signal a, b; when a do b",
         "int x in 0..1; skip",
+        "new int x in 0..1 in skip",
     ] {
         assert_run(&rt, alloc, text.as_bytes(), REFUSED)?;
     }

@@ -15,4 +15,4 @@ pub returns-clause-found : goal.returns-clause-found
 returns-clause-found c =
     let reads = rw c.in-Some.is at c.in_ok-surface.ensures.found in
     let expansion = rw c.in-Some-2.is at c.in_ok-program.ensures.found in
-    none_formed c.args.text.now c.in-Some-2.program (c.in-Some.surface, reads, expansion) (λ f. true_and_false c.is_built_form.result (c.is_built_form.ensures.1 f) c.if-is_built_form.false)
+    none_formed c.args.text.now c.in-Some-2.program (c.in-Some.surface, reads, expansion) (λ f. true_and_false c.has_signals_only.result (c.has_signals_only.ensures.1 f) c.if-has_signals_only.false)

@@ -1,4 +1,4 @@
-use Rattle.std.proofs.Common.{false, ap, ◌∙◌}
+use Rattle.std.proofs.Common.{ap, ◌∙◌}
 use Rattle.tdcc_tool.specs.Faults.{is_memory}
 use Rattle.tdcc_tool.proofs.Texts.{true_and_false}
 use Rattle.tdcc_tool.proofs.reading.surface_of.Goals as goal
