@@ -4,7 +4,7 @@ use Rattle.std.proofs.Math.Seq.{take-suc}
 use Rattle.std.proofs.lemmas.List.{append-nil}
 use Rattle.std.proofs.lemmas.Grind.{flat_map-append}
 use Rattle.std.specs.Prelude.{take, Option, unwrap_or}
-use Rattle.std.specs.List.{cons_option, join_with_byte}
+use Rattle.std.specs.List.{join_with_byte}
 use Rattle.token_system.specs.declared.cell.Value.{Value}
 use Rattle.token_system.specs.declared.cell.Cell.{Cell}
 use Rattle.token_system.specs.declared.name.CellName.TheVariants.{Declared}
@@ -13,7 +13,7 @@ use Rattle.token_system.specs.Stores.{Valuation, value_at}
 use Rattle.agent_core.specs.declared.node.CellDecl.{CellDecl}
 use Rattle.agent_core.specs.Programs.{CoreProgram}
 use Rattle.run_book.specs.DeclaredParts.{IsDeclaredPart, AreDeclaredParts}
-use Rattle.tdcc_tool.specs.StoreLines.{cell_text, cell_texts, store_line}
+use Rattle.trace_text.specs.StoreLines.{value_texts, cell_texts, store_line}
 use Rattle.tdcc_tool.specs.Answers.{store_lines}
 
 module _ (whole part : Valuation) (is : IsDeclaredPart whole part) where
@@ -23,8 +23,8 @@ module _ (whole part : Valuation) (is : IsDeclaredPart whole part) where
   same-texts : (n : ℕ) (cells : List CellDecl) → cell_texts n cells whole ≡ cell_texts n cells part
   same-texts n [] = refl
   same-texts n (d ∷ cells) =
-      ap (λ (v : Value). cons_option (cell_text d.name v) (cell_texts (suc n) cells whole)) (same-value n d.cell)
-      ∙ ap (cons_option (cell_text d.name (value_at part (Declared n) d.cell))) (same-texts (suc n) cells)
+      ap (λ (v : Value). value_texts d.name d.cell v ++ cell_texts (suc n) cells whole) (same-value n d.cell)
+      ∙ ap (λ (texts : List (List ℕ)). value_texts d.name d.cell (value_at part (Declared n) d.cell) ++ texts) (same-texts (suc n) cells)
 
   same-store_line : (p : CoreProgram) → store_line p whole ≡ store_line p part
   same-store_line p = ap (join_with_byte 32) (same-texts 0 (take p.declared p.cells))

@@ -1,10 +1,5 @@
-pub mod SignalCells
 pub mod AcceptedPrograms
-pub mod DeclaredTokens
 pub mod DeclaredLines
-pub mod Gathering
-pub mod NamedTokens
-pub mod LineTexts
 pub mod InstantNets
 pub mod RunAnswers
 pub mod RunSteps

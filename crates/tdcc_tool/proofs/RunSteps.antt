@@ -21,12 +21,14 @@ use Rattle.residuals.specs.RootLists.{listed}
 use Rattle.run_book.specs.Books.{BookView, Keeps}
 use Rattle.tdcc_tool.specs.declared.answer.End.{End}
 use Rattle.tdcc_tool.specs.declared.answer.End.TheVariants as ends
-use Rattle.tdcc_tool.specs.Inputs.{GivesInput}
+use Rattle.trace_text.specs.declared.fault.LineFault.{LineFault}
+use Rattle.trace_text.specs.declared.fault.LineFault.TheVariants as faults
+use Rattle.trace_text.specs.Inputs.{GivesInput}
 use Rattle.tdcc_tool.specs.Messages.{program_line}
 use Rattle.tdcc_tool.specs.Accepted.{Accepts}
-use Rattle.tdcc_tool.specs.RunEnds.{leaf_count, Stops, EndsBy, status_of, end_line}
+use Rattle.tdcc_tool.specs.RunEnds.{leaf_count, IsBadLine, EndsBy, status_of, end_line}
 use Rattle.tdcc_tool.specs.Answers.{Refuses, AnswersRun, GiveInputs, AreSmall, RunAnswer, store_lines}
-use Rattle.tdcc_tool.specs.Steps.{count_now, Goes, EndsAt}
+use Rattle.tdcc_tool.specs.Steps.{count_now, Goes, EndsAt, Says}
 use Rattle.tdcc_tool.proofs.AcceptedPrograms.{built_short}
 use Rattle.tdcc_tool.proofs.DeclaredLines.{same-store_lines}
 
@@ -76,15 +78,15 @@ module _ (p : CoreProgram) where
 
   pub given_long : (lines : List (List ℕ)) (ins : List Valuation) → GiveInputs p lines ins → length ins ≡ length lines
   given_long [] [] r = refl
-  given_long (line ∷ lines) (i ∷ ins) r = ap suc (given_long lines ins r.2)
+  given_long (line ∷ lines) (i ∷ ins) r = ap suc (given_long lines ins r.1)
   given_long [] (i ∷ ins) r = absurd r
   given_long (line ∷ lines) [] r = absurd r
 
-  given_more : (lines : List (List ℕ)) (ins : List Valuation) (line : List ℕ) (i : Valuation) → GiveInputs p lines ins → length line ≤ 32768 → GivesInput p line i → GiveInputs p (lines ++ line ∷ []) (ins ++ i ∷ [])
-  given_more [] [] line i r short h = (short, h, tt)
-  given_more (l ∷ lines) (j ∷ ins) line i r short h = (r.0, r.1, given_more lines ins line i r.2 short h)
-  given_more [] (j ∷ ins) line i r short h = absurd r
-  given_more (l ∷ lines) [] line i r short h = absurd r
+  given_more : (lines : List (List ℕ)) (ins : List Valuation) (line : List ℕ) (i : Valuation) → GiveInputs p lines ins → GivesInput p line i → GiveInputs p (lines ++ line ∷ []) (ins ++ i ∷ [])
+  given_more [] [] line i r h = (h, tt)
+  given_more (l ∷ lines) (j ∷ ins) line i r h = (r.0, given_more lines ins line i r.1 h)
+  given_more [] (j ∷ ins) line i r h = absurd r
+  given_more (l ∷ lines) [] line i r h = absurd r
 
   at_seam : (xs : List (List ℕ)) (y : List ℕ) (ys : List (List ℕ)) → slice_get (xs ++ y ∷ ys) (length xs) ≡ Some y
   at_seam [] y ys = refl
@@ -126,22 +128,27 @@ module _ (p : CoreProgram) where
     line_there line rest first =
         ap (slice_get (lines_of trace)) (full_long ∙ long) ∙ ap (λ ls. slice_get ls (length pr.done)) (pr.lines ∙ ap (λ ls. pr.done ++ ls) first) ∙ at_seam pr.done line (lines_of rest)
 
+    -- what is said of the book is said of its run
+    bad_line : (line : List ℕ) (fault : LineFault) → IsBadLine b.program (length b.ins) line fault → IsBadLine p (length pr.full) line fault
+    bad_line line fault bad = subst (λ (n : ℕ). IsBadLine p n line fault) (sym full_long) (subst (λ (q : CoreProgram). IsBadLine q (length b.ins) line fault) pr.program bad)
+
     ends_at : (after : BookView) (line rest : List ℕ) (end : End) → lines_of pr.rest ≡ line ∷ lines_of rest → length line ≤ 32768 → EndsAt b after line end → EndsBy p (lines_of trace) pr.full end
     ends_at after line rest ends.Whole first short h = absurd h
-    ends_at after line rest ends.Line first short h =
-        (line, line_there line rest first, subst (λ (n : ℕ). Stops p n line) (sym full_long) (subst (λ (q : CoreProgram). Stops q (length b.ins) line) pr.program h.0))
-    ends_at after line rest (ends.Net count) first short (few, input, given, over) =
-        let fewer : length pr.full < 65536 = let e = full_long in omega arith in (
-          line,
-          line_there line rest first,
-          record { few = fewer; short = short; input = input; given = subst (λ (q : CoreProgram). GivesInput q line input) pr.program given },
-          over.counted ∙ count_same,
-          over.over,
-        )
+    ends_at after line rest (ends.Line fault) first short h = (line, line_there line rest first, bad_line line fault h.0)
+    ends_at after line rest ends.Many first short h = (line, line_there line rest first, short, full_long ∙ h.0)
+    ends_at after line rest (ends.Net count) first short (few, input, given, over) = (
+      line,
+      line_there line rest first,
+      (input, subst (λ (q : CoreProgram). GivesInput q line input) pr.program given),
+      (let e = full_long in let k : length pr.full < 65536 = omega arith in k),
+      over.counted ∙ count_same,
+      over.over,
+    )
 
     same_after : (after : BookView) (line : List ℕ) (end : End) → EndsAt b after line end → after ≡ b
     same_after after line ends.Whole h = absurd h
-    same_after after line ends.Line h = h.1
+    same_after after line (ends.Line fault) h = h.1
+    same_after after line ends.Many h = h.1
     same_after after line (ends.Net count) h = h.3.same
 
     small_more : (output : Valuation) → count_now b ≤ 65536 → AreSmall p (pr.full ++ output ∷ [])
@@ -173,6 +180,13 @@ module _ (p : CoreProgram) where
       ended trace left b pr end s o e (ends_at trace left b pr after line h.0 end h.1.lines h.2 at) es
       (eo ∙ ap (λ (x : BookView). store_lines x.program x.outs) same) (ee ∙ ap (λ (x : BookView). end_line (length x.ins) end) same)
 
+  -- the end at a line says something
+  pub ends_say : (b after : BookView) (line : List ℕ) (end : End) → EndsAt b after line end → Says end
+  ends_say b after line ends.Whole h = tt
+  ends_say b after line (ends.Line fault) h = h.0.says
+  ends_say b after line ends.Many h = tt
+  ends_say b after line (ends.Net count) h = tt
+
   -- a line that is too long has a feed or an end behind it
   long_line : (bytes : List ℕ) → 32768 < length (first_line bytes) → (rest : List ℕ) × (lines_of bytes ≡ first_line bytes ∷ lines_of rest)
   long_line bytes over = (after_line bytes, lines-first bytes (not_empty bytes over))
@@ -182,12 +196,13 @@ module _ (p : CoreProgram) where
       not_empty (b ∷ bs) h e = cc
 
   pub ended_long : (start left new : Option (List ℕ)) (line o e : List ℕ) (b : BookView) (s : Status) → IfSome start (λ trace. Progress p trace left b) → ReadsLine left new line (Err stops.TooLong)
-      → s ≡ status_of ends.Line → o ≡ store_lines b.program b.outs → e ≡ end_line (length b.ins) ends.Line → IfSome start (λ trace. RunAnswer p (lines_of trace) s o e)
+      → s ≡ status_of (ends.Line faults.LineTooLong) → o ≡ store_lines b.program b.outs → e ≡ end_line (length b.ins) (ends.Line faults.LineTooLong) → IfSome start (λ trace. RunAnswer p (lines_of trace) s o e)
   ended_long None left new line o e b s pr r es eo ee = tt
   ended_long (Some trace) left new line o e b s pr r es eo ee =
       let h = subst (λ (l : Option (List ℕ)). ReadsLine l new line (Err stops.TooLong)) pr.known r in
       let first = long_line pr.rest h.0 in
-      ended trace left b pr ends.Line s o e (first_line pr.rest, line_there trace left b pr (first_line pr.rest) first.0 first.1, inl h.0) es eo ee
+      let bad : IsBadLine p (length pr.full) (first_line pr.rest) faults.LineTooLong = record { refused = h.0; says = λ same. cc; due = inr refl } in
+      ended trace left b pr (ends.Line faults.LineTooLong) s o e (first_line pr.rest, line_there trace left b pr (first_line pr.rest) first.0 first.1, bad) es eo ee
 
   -- a line goes on
   pub goes_on : (start left new : Option (List ℕ)) (line : List ℕ) (b after : BookView) → IfSome start (λ trace. Progress p trace left b) → ReadsLine left new line (Ok line_ends.Line) → Goes b after line
@@ -204,7 +219,7 @@ module _ (p : CoreProgram) where
         lines = pr.lines ∙ ap (λ ls. pr.done ++ ls) h.1.lines ∙ sym (append_assoc pr.done (line ∷ []) (lines_of h.0));
         program = c.closed.program ∙ pr.program;
         few = let few = g.few in let more = ap length c.closed.ins ∙ length-append b.ins (g.input ∷ []) in omega arith;
-        given = subst (GiveInputs p (pr.done ++ line ∷ [])) (sym c.closed.ins) (given_more pr.done b.ins line g.input pr.given h.2 (subst (λ (q : CoreProgram). GivesInput q line g.input) pr.program g.given));
+        given = subst (GiveInputs p (pr.done ++ line ∷ [])) (sym c.closed.ins) (given_more pr.done b.ins line g.input pr.given (subst (λ (q : CoreProgram). GivesInput q line g.input) pr.program g.given));
         keeps = c.keeps pr.full pr.keeps;
         small = small_more trace left b pr c.output c.small;
       }

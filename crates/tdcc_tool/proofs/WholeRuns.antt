@@ -14,41 +14,45 @@ use Rattle.agent_core.specs.Outputs.{IsRun}
 use Rattle.agent_laws.proofs.Runs.{one_run}
 use Rattle.tdcc_tool.specs.declared.answer.End.{End}
 use Rattle.tdcc_tool.specs.declared.answer.End.TheVariants as ends
-use Rattle.tdcc_tool.specs.Inputs.{GivesInput}
-use Rattle.tdcc_tool.specs.RunEnds.{Stops, EndsBy, status_of}
+use Rattle.trace_text.specs.Inputs.{GivesInput}
+use Rattle.tdcc_tool.specs.RunEnds.{EndsBy, status_of}
 use Rattle.tdcc_tool.specs.Answers.{GiveInputs, AreSmall, AnswersRun}
 use Rattle.tdcc_tool.specs.Completeness.{IsRunnable, EndsWhole, IsRoomFor}
 use Rattle.tdcc_tool.proofs.AcceptedPrograms.{accepted_program, one_accepted}
 use Rattle.tdcc_tool.proofs.OneAnswer.{refused_runs_not}
-use Rattle.tdcc_tool.proofs.RunAnswers.{no_stop, within, same_front, run-front}
+use Rattle.tdcc_tool.proofs.RunAnswers.{not_bad, within, same_front, run-front}
 use Rattle.tdcc_tool.proofs.RunSteps.{given_long}
 
 module _ (p : CoreProgram) where
   -- the line at each place gives an input
-  given_at : (lines : List (List ℕ)) (ins : List Valuation) (n : ℕ) (line : List ℕ) → GiveInputs p lines ins → slice_get lines n ≡ Some line
-      → (n < length ins) × (i : Valuation) × GivesInput p line i × (length line ≤ 32768)
+  given_at : (lines : List (List ℕ)) (ins : List Valuation) (n : ℕ) (line : List ℕ) → GiveInputs p lines ins → slice_get lines n ≡ Some line → (n < length ins) × (i : Valuation) × GivesInput p line i
   given_at [] [] n line all e = absurd (cc)
   given_at [] (i ∷ ins) n line all e = absurd all
   given_at (l ∷ lines) [] n line all e = absurd all
-  given_at (l ∷ lines) (i ∷ ins) zero line all e = let same : l ≡ line = cc in (omega arith, i, subst (λ (x : List ℕ). GivesInput p x i) same all.1, subst (λ (x : List ℕ). length x ≤ 32768) same all.0)
-  given_at (l ∷ lines) (i ∷ ins) (suc n) line all e = let h = given_at lines ins n line all.2 e in let lt = h.0 in (omega arith, h.1, h.2, h.3)
+  given_at (l ∷ lines) (i ∷ ins) zero line all e = let same : l ≡ line = cc in (omega arith, i, subst (λ (x : List ℕ). GivesInput p x i) same all.0)
+  given_at (l ∷ lines) (i ∷ ins) (suc n) line all e = let h = given_at lines ins n line all.1 e in let lt = h.0 in (omega arith, h.1, h.2)
 
   -- such a run ends at the end of the trace
   ends_whole : (lines : List (List ℕ)) (ins outs : List Valuation) (n : ℕ) (e : End) → GiveInputs p lines ins → length ins ≤ 65536 → length outs ≡ length ins → AreSmall p outs → n ≤ length ins
       → EndsBy p lines (take n outs) e → e ≡ ends.Whole
   ends_whole lines ins outs n ends.Whole all few whole small le h = refl
-  ends_whole lines ins outs n ends.Line all few whole small le h =
+  ends_whole lines ins outs n (ends.Line fault) all few whole small le h =
+      let long = length-take-le n outs (let k : n ≤ length outs = omega (arith, whole) in k) in
+      let g = given_at lines ins n h.0 all (subst (λ (k : ℕ). slice_get lines k ≡ Some h.0) long h.1) in
+      absurd (not_bad p (length (take n outs)) h.0 fault (g.1, g.2) h.2)
+  ends_whole lines ins outs n ends.Many all few whole small le h =
       let long = length-take-le n outs (let k : n ≤ length outs = omega (arith, whole) in k) in
       let g = given_at lines ins n h.0 all (subst (λ (k : ℕ). slice_get lines k ≡ Some h.0) long h.1) in
       let lt = g.0 in
-      absurd (no_stop p n h.0 (let k : n < 65536 = omega arith in k) (g.1, g.2, g.3) (subst (λ (k : ℕ). Stops p k h.0) long h.2))
+      let many = h.3 in
+      absurd (omega (arith, long, many, lt))
   ends_whole lines ins outs n (ends.Net count) all few whole small le h =
       let long = length-take-le n outs (let k : n ≤ length outs = omega (arith, whole) in k) in
       let g = given_at lines ins n h.0 all (subst (λ (k : ℕ). slice_get lines k ≡ Some h.0) long h.1) in
       let lt = g.0 in
       let fits = small n (let k : n < length outs = omega (arith, whole) in k) in
-      let over = h.4 in
-      let same = h.3 in
+      let over = h.5 in
+      let same = h.4 in
       absurd (omega (arith, fits, over, same))
 
   -- as many inputs are no more than the lines

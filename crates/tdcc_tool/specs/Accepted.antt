@@ -1,16 +1,22 @@
--- Which texts run, and as which programs: those whose cells are signals, which keep the limits of nodes and cells, and which do not depend on their own absence. This project's own.
+-- Which texts run, and as which programs: those that keep the limits of nodes and cells, and do not depend on their own absence. This project's own.
 use Rattle.std.specs.Prelude.{ℕ, ◌≤◌, List, length}
 use Rattle.agent_core.specs.Programs.{CoreProgram}
 use Rattle.agent_core.specs.Strata.{Stratifies}
-use Rattle.derived_forms.specs.ProgramTexts.{IsProgramText}
-use Rattle.tdcc_tool.specs.Signals.{HasSignalsOnly}
+use Rattle.tdcc_reader.specs.Surfaces.{SurfaceProgram}
+use Rattle.tdcc_reader.specs.Texts.{ReadsAs}
+use Rattle.derived_forms.specs.Expansions.{IsExpansion}
 
--- the text is this program's, which is within the limits and has signals only
-pub record IsBuilt (text : List ℕ) (p : CoreProgram) : Type 0 where
-  pub reads : IsProgramText text p
+-- the program is that of the surface, and is within the limits
+pub record IsCoreOf (s : SurfaceProgram) (p : CoreProgram) : Type 0 where
+  pub expansion : IsExpansion s p
   pub few_nodes : length p.nodes ≤ 4096
   pub few_cells : length p.cells ≤ 1024
-  pub signals : HasSignalsOnly p
+
+-- the text is this program's, which is within the limits
+pub record IsBuilt (text : List ℕ) (p : CoreProgram) : Type 0 where
+  pub surface : SurfaceProgram
+  pub reads : ReadsAs text surface
+  pub core : IsCoreOf surface p
 
 -- and some table of numbers stratifies it
 pub record Accepts (text : List ℕ) (p : CoreProgram) : Type 0 where

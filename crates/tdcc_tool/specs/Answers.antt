@@ -12,14 +12,14 @@ use Rattle.tdcc_tool.specs.declared.answer.End.{End}
 use Rattle.tdcc_tool.specs.Messages.{usage_line, program_line, strata_line}
 use Rattle.tdcc_tool.specs.Accepted.{IsBuilt, Accepts}
 use Rattle.tdcc_tool.specs.Readings.{IsRefusedCase}
-use Rattle.tdcc_tool.specs.Inputs.{GivesInput}
-use Rattle.tdcc_tool.specs.StoreLines.{store_line}
+use Rattle.trace_text.specs.Inputs.{GivesInput}
+use Rattle.trace_text.specs.StoreLines.{store_line}
 use Rattle.tdcc_tool.specs.RunEnds.{leaf_count, EndsBy, status_of, end_line}
 
--- each of these lines is within its limit of bytes, and gives the input at its place
+-- each of these lines gives the input at its place
 abbrev pub GiveInputs : CoreProgram → List (List ℕ) → List Valuation → Type 0
 GiveInputs p [] [] = Unit {0}
-GiveInputs p (line ∷ lines) (i ∷ ins) = (length line ≤ 32768) × GivesInput p line i × GiveInputs p lines ins
+GiveInputs p (line ∷ lines) (i ∷ ins) = GivesInput p line i × GiveInputs p lines ins
 GiveInputs p [] (i ∷ ins) = ⊥
 GiveInputs p (line ∷ lines) [] = ⊥
 

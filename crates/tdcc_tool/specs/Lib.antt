@@ -1,11 +1,7 @@
 pub mod Messages
-pub mod Signals
-pub mod Inputs
-pub mod StoreLines
 pub mod Accepted
 pub mod Faults
 pub mod Readings
-pub mod Tellings
 pub mod RunEnds
 pub mod Answers
 pub mod Cuts

@@ -2,6 +2,8 @@
 use Rattle.std.specs.Prelude.{ℕ, List, [], ◌∷◌, ◌++◌, codes, decimal, slice_get, Option, Some, None}
 use Rattle.agent_core.specs.declared.node.CellDecl.{CellDecl}
 use Rattle.agent_core.specs.Programs.{CoreProgram}
+use Rattle.trace_text.specs.declared.fault.LineFault.{LineFault}
+use Rattle.trace_text.specs.declared.fault.LineFault.TheVariants.{BadToken, UnknownName, WrongKind, LineTooLong, Memory}
 
 -- the program's name before the text, and a line feed after it
 abbrev pub message : List ℕ → List ℕ
@@ -25,9 +27,25 @@ abbrev pub strata_line : CoreProgram → ℕ → ℕ → ℕ → List ℕ
 strata_line p guard told node =
     message (codes "program: not stratified, " ++ cell_name (slice_get p.cells guard) ++ codes " guards " ++ cell_name (slice_get p.cells told) ++ codes " at node " ++ decimal node)
 
--- the line of instant n is refused
-abbrev pub trace_line : ℕ → List ℕ
-trace_line n = message (codes "trace: instant " ++ decimal n ++ codes ": bad token at offset 0")
+-- what is said of the fault of a line; of want of memory nothing is said
+abbrev pub fault_text : LineFault → List ℕ
+fault_text (BadToken offset) = codes "bad token at offset " ++ decimal offset
+fault_text (UnknownName offset) = codes "unknown name at offset " ++ decimal offset
+fault_text (WrongKind offset) = codes "wrong kind at offset " ++ decimal offset
+fault_text LineTooLong = codes "line over 32768 bytes"
+fault_text Memory = []
+
+-- what is said of the line of instant n
+abbrev pub instant_line : ℕ → List ℕ → List ℕ
+instant_line n text = message (codes "trace: instant " ++ decimal n ++ codes ": " ++ text)
+
+-- the line of instant n has the fault
+abbrev pub trace_line : ℕ → LineFault → List ℕ
+trace_line n fault = instant_line n (fault_text fault)
+
+-- there is a line for an instant more than there may be
+abbrev pub many_line : ℕ → List ℕ
+many_line n = instant_line n (codes "over 65536 instants")
 
 -- instant n has this many leaves, which are more than an instant may have
 abbrev pub net_line : ℕ → ℕ → List ℕ

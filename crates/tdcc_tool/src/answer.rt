@@ -1,8 +1,10 @@
 //! What a run ends with, and what is written then.
-ghost use Rattle.std.specs.Prelude.{◌≡◌, [], IfOk, length, slice_get};
+ghost use Rattle.std.specs.Prelude.{◌≡◌, ◌≢◌, [], IfOk, length, slice_get, string_bytes};
 ghost use Rattle.tdcc_tool.specs.Answers.{store_lines};
-ghost use Rattle.tdcc_tool.specs.Messages.{cell_name, program_line, strata_line};
+ghost use Rattle.trace_text.specs.declared.fault.LineFault.TheVariants.{Memory as OutOfMemory};
+ghost use Rattle.tdcc_tool.specs.Messages.{cell_name, fault_text as fault_text_of, instant_line as instant_line_of, program_line, strata_line};
 ghost use Rattle.tdcc_tool.specs.RunEnds.{end_line, status_of};
+ghost use Rattle.tdcc_tool.specs.Steps.{Says};
 
 use crate::store_line::write_stores;
 use agent_core::Program;
@@ -10,6 +12,7 @@ use run_book::Book;
 use std::alloc::{AllocError, AllocFailed, Global};
 use tdcc_base::Status;
 use token_system::Memory;
+use trace_text::LineFault;
 
 /// What a run ends with, and what is to be written to out and to err.
 #[derive(Drop)]
@@ -24,8 +27,10 @@ pub struct Answer {
 pub enum End {
     /// Every line of the trace was answered.
     Whole,
-    /// A line gives no input, is too long, or is one too many.
-    Line,
+    /// A line gives no input, for this fault.
+    Line { fault: LineFault },
+    /// There is a line more than a run may have instants.
+    Many,
     /// The instant has more leaves than an instant may have: so many.
     Net { leaves: u64 },
 }
@@ -37,7 +42,8 @@ impl End {
     {
         match self {
             End::Whole => Status::Ok,
-            End::Line => Status::Trace,
+            End::Line { .. } => Status::Trace,
+            End::Many => Status::Trace,
             End::Net { .. } => Status::Net,
         }
     }
@@ -123,22 +129,48 @@ pub fn refused_case(
     })
 }
 
+/// What is said of the fault of a line.
+fn fault_text(alloc: Global, fault: LineFault) -> Result<String, Memory>
+    requires { fault ≢ OutOfMemory }
+    ensures { IfOk result (λ text. string_bytes text ≡ fault_text_of fault) }
+{
+    let text = match fault {
+        LineFault::BadToken { offset } => format!(in alloc; "bad token at offset {offset}")?,
+        LineFault::UnknownName { offset } => format!(in alloc; "unknown name at offset {offset}")?,
+        LineFault::WrongKind { offset } => format!(in alloc; "wrong kind at offset {offset}")?,
+        LineFault::LineTooLong => format!(in alloc; "line over 32768 bytes")?,
+        LineFault::Memory => unreachable!(),
+    };
+    Ok(text)
+}
+
+/// The line for err where the line of this instant stops the run, for this reason.
+fn instant_line(alloc: Global, instant: u32, reason: &str) -> Result<Vec<u8>, Memory>
+    ensures { IfOk result (λ line. line.items ≡ instant_line_of instant reason.now) }
+{
+    let line = format!(in alloc; "tdcc: trace: instant {instant}: {reason}\n")?;
+    Ok(line.as_bytes().to_vec(alloc)?)
+}
+
 /// The line for err where a run ends so at this instant.
 fn line_of(alloc: Global, instant: u32, end: End) -> Result<Vec<u8>, Memory>
+    requires { Says end }
     ensures { IfOk result (λ line. line.items ≡ end_line instant end) }
 {
-    let text = match end {
-        End::Whole => return Ok(Vec::new(alloc)),
-        End::Line => format!(in alloc; "tdcc: trace: instant {instant}: bad token at offset 0\n")?,
-        End::Net { leaves } => format!(in alloc;
-            "tdcc: net: instant {instant}: {leaves} leaves\n"
-        )?,
-    };
-    Ok(text.as_bytes().to_vec(alloc)?)
+    match end {
+        End::Whole => Ok(Vec::new(alloc)),
+        End::Line { fault } => instant_line(alloc, instant, fault_text(alloc, fault)?.as_str()),
+        End::Many => instant_line(alloc, instant, "over 65536 instants"),
+        End::Net { leaves } => {
+            let line = format!(in alloc; "tdcc: net: instant {instant}: {leaves} leaves\n")?;
+            Ok(line.as_bytes().to_vec(alloc)?)
+        }
+    }
 }
 
 /// The answer of the run that the book keeps, where it ends so.
 pub fn finish(alloc: Global, book: &Book, end: End) -> Result<Answer, Memory>
+    requires { Says end }
     ensures status { IfOk result (λ a. a.status ≡ status_of end) }
     ensures out { IfOk result (λ a. a.out.items ≡ store_lines book.now.program book.now.outs) }
     ensures err { IfOk result (λ a. a.err.items ≡ end_line (length book.now.ins) end) }

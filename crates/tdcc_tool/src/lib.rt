@@ -2,13 +2,11 @@
 #![tactic(auto)]
 
 mod answer;
-mod input;
 mod instant;
 mod laws;
 mod reading;
 mod run;
 mod store_line;
-mod telling;
 #[cfg(test)]
 mod tests;
 mod top;

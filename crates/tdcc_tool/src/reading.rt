@@ -1,22 +1,18 @@
-ghost use Rattle.std.specs.Prelude.{◌≡◌, ◌↔◌, ◌<◌, ◌⊎◌, IfErr, IfOk, IsTrue, MatchOption, length};
-ghost use Rattle.std.specs.List.{list_all};
+ghost use Rattle.std.specs.Prelude.{◌≡◌, ◌<◌, ◌⊎◌, IfErr, IfOk, MatchOption, length};
 ghost use Rattle.agent_core.specs.Programs.{CoreProgram};
 ghost use Rattle.tdcc_reader.specs.Surfaces.{SurfaceProgram};
 ghost use Rattle.tdcc_reader.specs.Texts.{ReadsAs};
-ghost use Rattle.derived_forms.specs.Expansions.{IsExpansion};
 ghost use Rattle.tdcc_tool.specs.declared.answer.Stop as Stop;
-ghost use Rattle.tdcc_tool.specs.Accepted.{IsBuilt};
+ghost use Rattle.tdcc_tool.specs.Accepted.{IsBuilt, IsCoreOf};
 ghost use Rattle.tdcc_tool.specs.Faults.{is_memory as is_memory_of};
 ghost use Rattle.tdcc_tool.specs.Readings.{IsReadingOf};
-ghost use Rattle.tdcc_tool.specs.Signals.{HasSignalsOnly, is_signal_kind};
 
 use crate::answer::Stop;
-use agent_core::{CellDecl, Levels, Program};
+use agent_core::{Levels, Program};
 use derived_forms::{ExpandFault, expand};
 use std::alloc::Global;
 use strata::{StrataFault, strata};
 use tdcc_reader::{ReadFault, Surface, read_program as read_surface};
-use token_system::Kind;
 
 /// What a text is.
 #[derive(Drop)]
@@ -35,20 +31,6 @@ pub enum Reading {
         told: u32,
         node: u32,
     },
-}
-
-/// Whether each of the cells is a signal.
-fn are_signals(cells: &[CellDecl]) -> bool
-    ensures { result ≡ list_all (λ decl. is_signal_kind decl.cell.kind) cells.now }
-{
-    cells.iter().all(|decl| decl.cell.kind == Kind::Signal)
-}
-
-/// Whether a program has signals only.
-fn has_signals_only(program: &Program) -> bool
-    ensures { IsTrue result ↔ HasSignalsOnly program.now }
-{
-    are_signals(program.cells())
 }
 
 /// Whether the refusal is want of memory.
@@ -76,18 +58,21 @@ fn surface_of(alloc: Global, text: &[u8]) -> Result<Option<Surface>, Stop>
 
 /// The core program of a surface, where it keeps the limits.
 fn program_of(alloc: Global, surface: &Surface) -> Result<Option<Program>, Stop>
-    ensures found { IfOk result (λ found. MatchOption found ((4096 < length surface.now.forms) ⊎ (1024 < length surface.now.cells)) (IsExpansion surface.now)) }
+    ensures found { IfOk result (λ found. MatchOption found ((4096 < length surface.now.forms) ⊎ (1024 < length surface.now.cells)) (IsCoreOf surface.now)) }
     ensures only { IfErr result (λ stop. stop ≡ Stop.Memory) }
 {
     match expand(alloc, surface) {
-        Ok(program) => Ok(Some(program)),
+        Ok(program) => {
+            let _ = program.nodes();
+            Ok(Some(program))
+        }
         Err(ExpandFault::TooManyNodes) => Ok(None),
         Err(ExpandFault::TooManyCells) => Ok(None),
         Err(ExpandFault::Memory) => Err(Stop::Memory),
     }
 }
 
-/// The program of a text, where it is within the limits and has signals only.
+/// The program of a text, where it is within the limits.
 fn built_program(alloc: Global, text: &[u8]) -> Result<Option<Program>, Stop>
     ensures found { IfOk result (λ found. MatchOption found ((p : CoreProgram) → IsBuilt text.now p → ⊥) (IsBuilt text.now)) }
     ensures only { IfErr result (λ stop. stop ≡ Stop.Memory) }
@@ -95,14 +80,7 @@ fn built_program(alloc: Global, text: &[u8]) -> Result<Option<Program>, Stop>
     let Some(surface) = surface_of(alloc, text)? else {
         return Ok(None);
     };
-    let Some(program) = program_of(alloc, &surface)? else {
-        return Ok(None);
-    };
-    if has_signals_only(&program) {
-        Ok(Some(program))
-    } else {
-        Ok(None)
-    }
+    program_of(alloc, &surface)
 }
 
 /// Reads a program text.

@@ -5,13 +5,11 @@ ghost use Rattle.tdcc_base.specs.Promises.{StaysSteady};
 ghost use Rattle.tdcc_base.specs.Lines.{lines_of};
 ghost use Rattle.tdcc_base.specs.Waiting.{waiting, source_of, stop_of, LinesReady, IsFirst, name_of};
 ghost use Rattle.agent_core.specs.Strata.{Stratifies};
-ghost use Rattle.tdcc_tool.specs.Signals.{HasSignalsOnly};
 ghost use Rattle.tdcc_tool.specs.Answers.{AnswersRun, RunAnswer};
 ghost use Rattle.tdcc_tool.specs.Ends.{IsRunEnd};
 ghost use Rattle.tdcc_tool.specs.Steps.{EndsAt, Goes};
 
 use crate::answer::{Answer, End, Stop, finish, refused_case, refused_program};
-use crate::input::read_input;
 use crate::instant::run_instant;
 use crate::reading::{Reading, read_program};
 use agent_core::{Levels, Program};
@@ -20,20 +18,22 @@ use run_book::Book;
 use std::alloc::{AllocError, Global};
 use tdcc_base::{LineEnd, Lines, ReadStop, Source, Status};
 use token_system::Memory;
+use trace_text::{LineFault, read_input};
 
 /// How many instants a run has at most.
 const INSTANTS: u32 = 65_536;
 
 /// Runs the instant of one line, or says how the run ends at it.
 fn run_line(alloc: Global, book: &mut Book, line: &[u8]) -> Result<Option<End>, Memory>
-    requires signals { HasSignalsOnly book.old.program }
     ensures { IfOk result (λ end. MatchOption end (Goes book.old book.new line.now) (EndsAt book.old book.new line.now)) }
 {
     if book.instants() == INSTANTS {
-        return Ok(Some(End::Line));
+        return Ok(Some(End::Many));
     }
-    let Some(input) = read_input(alloc, book.program(), line)? else {
-        return Ok(Some(End::Line));
+    let input = match read_input(alloc, book.program(), line) {
+        Ok(input) => input,
+        Err(LineFault::Memory) => return Err(AllocError),
+        Err(fault) => return Ok(Some(End::Line { fault })),
     };
     match run_instant(alloc, book, input) {
         Ok(()) => Ok(None),
@@ -50,7 +50,6 @@ fn run_trace<S: Source>(
     lines: &mut Lines<'_, S>,
 ) -> Result<Answer, Stop>
     requires stratified { Stratifies program levels }
-    requires signals { HasSignalsOnly program }
     requires ready { LinesReady S.left lines.old }
     requires going_on { IsNone (stop_of lines.old) }
     ensures same_reference { name_of lines.new ≡ name_of lines.old }
@@ -66,7 +65,12 @@ fn run_trace<S: Source>(
     'lines: loop {
         match lines.read_line() {
             Err(ReadStop::Read) => return Err(Stop::Read),
-            Err(ReadStop::TooLong) => return Ok(finish(alloc, &book, End::Line)?),
+            Err(ReadStop::TooLong) => {
+                let end = End::Line {
+                    fault: LineFault::LineTooLong,
+                };
+                return Ok(finish(alloc, &book, end)?);
+            },
             Ok(LineEnd::End) => return Ok(finish(alloc, &book, End::Whole)?),
             Ok(LineEnd::Line) => {
                 if let Some(end) = run_line(alloc, &mut book, lines.line())? {

@@ -5,6 +5,7 @@ mod devices;
 mod lines;
 mod over_time;
 mod programs;
+mod tokens;
 
 use crate::tdcc;
 use std::alloc::Global;

@@ -22,10 +22,10 @@ fn an_input_without_a_mark_is_all_text(rt: HostRuntime) -> Result<(), Fail> {
 fn a_line_with_an_unknown_name_stops_the_run(rt: HostRuntime) -> Result<(), Fail> {
     let alloc = rt.alloc();
     let first = b"signal a, b; if a then b\n%%\nc\n".as_slice();
-    let wanted = "4||tdcc: trace: instant 0: bad token at offset 0\n";
+    let wanted = "4||tdcc: trace: instant 0: unknown name at offset 0\n";
     assert_run(&rt, alloc, first, wanted)?;
     let later = b"signal a, b; if a then b\n%%\na\nc\na\n".as_slice();
-    let wanted = "4|a b\n|tdcc: trace: instant 1: bad token at offset 0\n";
+    let wanted = "4|a b\n|tdcc: trace: instant 1: unknown name at offset 0\n";
     assert_run(&rt, alloc, later, wanted)
 }
 
@@ -39,7 +39,7 @@ fn a_line_has_up_to_32768_bytes(rt: HostRuntime) -> Result<(), Fail> {
     let mut input = b"skip\n%%\n\n".to_vec(alloc)?;
     input.extend_from_slice(&vec![in alloc; b' '; 32_769]?)?;
     input.push(b'\n')?;
-    let wanted = "4|\n|tdcc: trace: instant 1: bad token at offset 0\n";
+    let wanted = "4|\n|tdcc: trace: instant 1: line over 32768 bytes\n";
     assert_run(&rt, alloc, input.as_slice(), wanted)
 }
 

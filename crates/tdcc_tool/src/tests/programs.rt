@@ -78,8 +78,8 @@ fn texts_of_other_forms_are_refused(rt: HostRuntime) -> Result<(), Fail> {
     for text in [
         "signal a, b; always if a else b\n%%\n\na\n",
         "signal a, b; when a do b",
-        "int x in 0..1; skip",
-        "new int x in 0..1 in skip",
+        "signal a, b; do a watching b",
+        "signal a, b; time a on b",
     ] {
         assert_run(&rt, alloc, text.as_bytes(), REFUSED)?;
     }

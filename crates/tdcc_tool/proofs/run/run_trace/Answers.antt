@@ -1,7 +1,6 @@
 use Rattle.std.proofs.Common.{List, ℕ, refl, sym, ap, ◌∙◌, subst, arith}
 use Rattle.run_book.specs.Books.{BookView}
 use Rattle.tdcc_base.specs.Waiting.{waiting, line_read}
-use Rattle.tdcc_tool.specs.Signals.{HasSignalsOnly}
 use Rattle.tdcc_tool.specs.Steps.{Goes, EndsAt}
 use Rattle.tdcc_tool.proofs.RunSteps.{progress-start, ended_whole, ended_at, ended_long, goes_on}
 use Rattle.tdcc_tool.proofs.run.run_trace.Goals as goal
@@ -14,7 +13,6 @@ lines-init g c =
       same = refl;
       ready = c.requires.ready;
       going_on = c.requires.going_on;
-      signals = subst HasSignalsOnly (sym program) c.requires.signals;
       later = omega arith;
       steady = λ h. h;
       so_far = progress-start c.args.program (waiting g.S.Source.left c.args.lines.now) c.in_ok-book.book program (ap (λ (b : BookView). b.ins) opened) c.in_ok-book.ensures.keeps;
@@ -50,7 +48,6 @@ lines-preserved g c =
       same = c.in-Ok-Line.ensures.same_reference ∙ c.lines.invariant.same;
       ready = c.in-Ok-Line.ensures.ready;
       going_on = c.in-Ok-Line.ensures.going_on;
-      signals = subst HasSignalsOnly (sym k.closes.closed.program) c.lines.invariant.signals;
       later = omega (arith, c.in-Ok-Line.ensures.later);
       steady = λ h. ((c.in-Ok-Line.ensures.steady c.lines.invariant.going_on) (c.lines.invariant.steady h)).0;
       so_far = goes_on c.args.program (waiting g.S.Source.left c.args.lines.now) (waiting g.S.Source.left c.lines.lines) (waiting g.S.Source.left c.read_line.new.self) (line_read c.read_line.new.self) c.lines.book c.run_line.new.book c.lines.invariant.so_far h
