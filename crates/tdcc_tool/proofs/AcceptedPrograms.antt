@@ -1,26 +1,27 @@
 -- What holds of the texts whose program is built: each is one program.
-use Rattle.std.proofs.Common.{◌≡◌, ℕ, ◌<◌, ◌≤◌, List, length, inl, inr, sym, ap, ◌∙◌, arith, Ok, Err, Some, None}
-use Rattle.std.specs.Prelude.{◌⊎◌, IfOk, MatchOption, Option, Result}
+use Rattle.std.proofs.Common.{◌≡◌, ℕ, ◌<◌, ◌≤◌, List, length, refl, sym, ap, ◌∙◌, arith}
+use Rattle.std.specs.Prelude.{◌≢◌, IfErr, Result, Ok, Err}
 use Rattle.std.proofs.lemmas.List.{length-map}
 use Rattle.agent_core.specs.Programs.{CoreProgram}
 use Rattle.agent_core.specs.Facts.{IsProgram}
 use Rattle.agent_core.specs.Listing.{listing}
+use Rattle.tdcc_reader.specs.declared.fault.ReadFault.{ReadFault}
+use Rattle.tdcc_reader.specs.declared.fault.ReadFault.TheVariants.{Memory}
+use Rattle.tdcc_reader.specs.Refusals.{Refuses}
 use Rattle.tdcc_reader.specs.Surfaces.{SurfaceProgram}
 use Rattle.tdcc_reader.specs.Texts.{ReadsAs}
+use Rattle.tdcc_reader.proofs.OneRefusal.{one_refusal, read_not_refused}
 use Rattle.derived_forms.specs.Expansions.{IsExpansion}
 use Rattle.derived_forms.specs.ProgramTexts.{IsProgramText}
 use Rattle.derived_forms.specs.Forms.{form_of}
 use Rattle.derived_forms.proofs.NodeForms.{forms_listed}
-use Rattle.derived_forms.proofs.Surfaces.{expansion_program, one_core}
-use Rattle.tdcc_tool.specs.Accepted.{IsCoreOf, IsBuilt, Accepts}
+use Rattle.derived_forms.proofs.Surfaces.{expansion_program, one_core, some_program}
+use Rattle.tdcc_tool.specs.Accepted.{IsBuilt, Accepts}
+use Rattle.tdcc_tool.specs.TextFaults.{HasFault, misread, many_nodes, many_cells}
 
 -- the text's program, whatever its size
 text_program : (text : List ℕ) (p : CoreProgram) → IsBuilt text p → IsProgramText text p
 text_program text p a = (a.surface, a.reads, a.core.expansion)
-
--- such a text is not too long
-pub built_short : (text : List ℕ) (p : CoreProgram) → IsBuilt text p → length text ≤ 65536
-built_short text p a = let (phrase, accepts, surface) = a.reads in accepts.has.lexed.within
 
 pub built_program : (text : List ℕ) (p : CoreProgram) → IsBuilt text p → IsProgram p
 built_program text p a = expansion_program a.surface p (text, a.reads) a.core.expansion a.core.few_nodes a.core.few_cells
@@ -28,37 +29,57 @@ built_program text p a = expansion_program a.surface p (text, a.reads) a.core.ex
 pub one_built : (text : List ℕ) (p q : CoreProgram) → IsBuilt text p → IsBuilt text q → p ≡ q
 one_built text p q a b = one_core text p q (text_program text p a) (text_program text q b)
 
--- a text without a surface is none
-pub none_read : (text : List ℕ) → ((s : SurfaceProgram) → ReadsAs text s → ⊥) → (q : CoreProgram) → IsBuilt text q → ⊥
-none_read text none q a = none a.surface a.reads
-
 -- a program has as many nodes as its surface has forms
 same_count : (s : SurfaceProgram) (p : CoreProgram) → IsExpansion s p → length s.forms ≡ length p.nodes
 same_count s p e = ap length (e.written ∙ sym (forms_listed 0 e.agent)) ∙ length-map (listing 0 e.agent) form_of ∙ ap length (sym e.nodes)
 
--- nor is one whose surface is too large
-none_small : (text : List ℕ) (s : SurfaceProgram) → ReadsAs text s → ((p : CoreProgram) × IsExpansion s p) → (4096 < length s.forms) ⊎ (1024 < length s.cells) → (q : CoreProgram) → IsBuilt text q → ⊥
-none_small text s reads (p, expansion) large q a = go large
-  where
-    same : p ≡ q
-    same = one_core text p q (s, reads, expansion) (text_program text q a)
+-- surfaces of one text are of one size
+same_sizes : (text : List ℕ) (s t : SurfaceProgram) (p q : CoreProgram) → ReadsAs text s → ReadsAs text t → IsExpansion s p → IsExpansion t q → (length s.forms ≡ length t.forms) × (length s.cells ≡ length t.cells)
+same_sizes text s t p q reads reads' e e' =
+    let same : p ≡ q = one_core text p q (s, reads, e) (t, reads', e') in (
+      same_count s p e ∙ ap (λ (x : CoreProgram). length x.nodes) same ∙ sym (same_count t q e'),
+      ap length (sym e.cells) ∙ ap (λ (x : CoreProgram). length x.cells) same ∙ ap length e'.cells,
+    )
 
-    nodes : length s.forms ≡ length q.nodes
-    nodes = same_count s p expansion ∙ ap (λ (x : CoreProgram). length x.nodes) same
+-- not both limits are gone past first
+not_both : (text : List ℕ) (s t : SurfaceProgram) → ReadsAs text s → ReadsAs text t → 4096 < length s.forms → (length t.forms ≤ 4096) × (1024 < length t.cells) → ⊥
+not_both text s t reads reads' many few =
+    let (p, e) = some_program text s reads in
+    let (q, e') = some_program text t reads' in
+    let same = (same_sizes text s t p q reads reads' e e').0 in
+    let le = few.0 in omega arith
 
-    cells : length s.cells ≡ length q.cells
-    cells = ap length (sym expansion.cells) ∙ ap (λ (x : CoreProgram). length x.cells) same
+-- a text whose program is built has no fault
+pub built_no_fault : (text : List ℕ) (p : CoreProgram) (f : ReadFault) → IsBuilt text p → HasFault text f → ⊥
+built_no_fault text p f a (misread f' says refuses) = read_not_refused text a.surface f says a.reads refuses
+built_no_fault text p f a (many_nodes s reads many) =
+    let (q, e) = some_program text s reads in
+    let same = (same_sizes text s a.surface q p reads a.reads e a.core.expansion).0 in
+    let count = same_count a.surface p a.core.expansion in
+    let few = a.core.few_nodes in omega arith
+built_no_fault text p f a (many_cells s reads many) =
+    let (q, e) = some_program text s reads in
+    let same = (same_sizes text s a.surface q p reads a.reads e a.core.expansion).1 in
+    let count = ap length a.core.expansion.cells in
+    let few = a.core.few_cells in
+    let over = many.1 in omega arith
 
-    go : (4096 < length s.forms) ⊎ (1024 < length s.cells) → ⊥
-    go (inl many) = let e = nodes in let few = a.core.few_nodes in omega arith
-    go (inr many) = let e = cells in let few = a.core.few_cells in omega arith
+-- a text has one fault
+pub one_text_fault : (text : List ℕ) (f g : ReadFault) → HasFault text f → HasFault text g → f ≡ g
+one_text_fault text f g (misread f' says refuses) (misread g' says' refuses') = one_refusal text f g says says' refuses refuses'
+one_text_fault text f g (misread f' says refuses) (many_nodes s reads many) = absurd (read_not_refused text s f says reads refuses)
+one_text_fault text f g (misread f' says refuses) (many_cells s reads many) = absurd (read_not_refused text s f says reads refuses)
+one_text_fault text f g (many_nodes s reads many) (misread g' says refuses) = absurd (read_not_refused text s g says reads refuses)
+one_text_fault text f g (many_cells s reads many) (misread g' says refuses) = absurd (read_not_refused text s g says reads refuses)
+one_text_fault text f g (many_nodes s reads many) (many_nodes t reads' many') = refl
+one_text_fault text f g (many_cells s reads many) (many_cells t reads' many') = refl
+one_text_fault text f g (many_nodes s reads many) (many_cells t reads' many') = absurd (not_both text s t reads reads' many many')
+one_text_fault text f g (many_cells s reads many) (many_nodes t reads' many') = absurd (not_both text t s reads' reads many' many)
 
--- what is made of a text's surface is its program, or there is none
-pub found_core : {E : Type 0} (text : List ℕ) (s : SurfaceProgram) → ReadsAs text s → ((p : CoreProgram) × IsExpansion s p) → (r : Result (Option CoreProgram) E)
-    → IfOk r (λ found. MatchOption found ((4096 < length s.forms) ⊎ (1024 < length s.cells)) (IsCoreOf s)) → IfOk r (λ found. MatchOption found ((p : CoreProgram) → IsBuilt text p → ⊥) (IsBuilt text))
-found_core text s reads some (Err e) h = tt
-found_core text s reads some (Ok None) h = none_small text s reads some h
-found_core text s reads some (Ok (Some p)) h = record { surface = s; reads = reads; core = h }
+-- what is answered where a text is not read
+pub misread_if : {T : Type 0} (text : List ℕ) (r : Result T ReadFault) → IfErr r (Refuses text) → IfErr r (λ f. f ≢ Memory → HasFault text f)
+misread_if text (Ok x) h = tt
+misread_if text (Err f) h = λ says. misread f says h
 
 -- so are the texts that run
 pub accepted_program : (text : List ℕ) (p : CoreProgram) → Accepts text p → IsProgram p

@@ -10,11 +10,11 @@ use Rattle.agent_core.specs.Strata.{Edge, Each, Stratifies, IsFirstCase, edges, 
 use Rattle.agent_laws.proofs.ProgramOutputs.{has_output, one_output}
 use Rattle.agent_laws.proofs.Runs.{has_run, one_run}
 use Rattle.tdcc_tool.specs.Accepted.{Accepts}
-use Rattle.tdcc_tool.specs.Messages.{strata_line}
+use Rattle.tdcc_tool.specs.Messages.{program_line, strata_line}
 use Rattle.tdcc_tool.specs.Readings.{IsRefusedCase}
 use Rattle.tdcc_tool.specs.Answers.{RunAnswer, Refuses, AnswersRun, HaveOneAnswer}
 use Rattle.tdcc_tool.specs.Laws.{AcceptedHaveOneOutput, AcceptedHaveOneRun}
-use Rattle.tdcc_tool.proofs.AcceptedPrograms.{accepted_program, one_built, one_accepted}
+use Rattle.tdcc_tool.proofs.AcceptedPrograms.{accepted_program, one_built, one_accepted, one_text_fault, built_no_fault}
 use Rattle.tdcc_tool.proofs.RunAnswers.{one_run_answer}
 
 -- FIRST CASES: there is at most one
@@ -40,16 +40,16 @@ one_refused_line p g t n g' t' n' a b =
 
 -- a text is refused by one line
 one_refusal : (text : List ℕ) (e e' : List ℕ) → Refuses text e → Refuses text e' → e ≡ e'
-one_refusal text e e' (inl x) (inl y) = x.1 ∙ sym y.1
-one_refusal text e e' (inl x) (inr y) = absurd (x.0 y.0 y.1)
-one_refusal text e e' (inr x) (inl y) = absurd (y.0 x.0 x.1)
+one_refusal text e e' (inl (f, has, line)) (inl (g, has', line')) = line ∙ ap program_line (one_text_fault text f g has has') ∙ sym line'
+one_refusal text e e' (inl (f, has, line)) (inr y) = absurd (built_no_fault text y.0 f y.1 has)
+one_refusal text e e' (inr x) (inl (g, has', line')) = absurd (built_no_fault text x.0 g x.1 has')
 one_refusal text e e' (inr (p, built, g, t, n, case, line)) (inr (q, built', g', t', n', case', line')) =
     let same : q ≡ p = one_built text q p built' built in
     line ∙ one_refused_line p g t n g' t' n' case (subst (λ (x : CoreProgram). IsRefusedCase x g' t' n') same case') ∙ ap (λ (x : CoreProgram). strata_line x g' t' n') (sym same) ∙ sym line'
 
 -- and then it does not run
 pub refused_runs_not : (text : List ℕ) (e : List ℕ) (p : CoreProgram) → Refuses text e → Accepts text p → ⊥
-refused_runs_not text e p (inl x) a = x.0 p a.built
+refused_runs_not text e p (inl (f, has, line)) a = built_no_fault text p f a.built has
 refused_runs_not text e p (inr (q, built, g, t, n, case, line)) a = case.none a.table (subst (λ (x : CoreProgram). Stratifies x a.table) (one_built text p q a.built built) a.stratified)
 
 -- the answer of `run` is one

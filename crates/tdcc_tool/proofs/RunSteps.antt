@@ -25,11 +25,12 @@ use Rattle.trace_text.specs.declared.fault.LineFault.{LineFault}
 use Rattle.trace_text.specs.declared.fault.LineFault.TheVariants as faults
 use Rattle.trace_text.specs.Inputs.{GivesInput}
 use Rattle.tdcc_tool.specs.Messages.{program_line}
+use Rattle.tdcc_reader.specs.declared.fault.ReadFault.TheVariants.{TextTooLong}
+use Rattle.tdcc_tool.specs.TextFaults.{misread}
 use Rattle.tdcc_tool.specs.Accepted.{Accepts}
 use Rattle.tdcc_tool.specs.RunEnds.{leaf_count, IsBadLine, EndsBy, status_of, end_line}
 use Rattle.tdcc_tool.specs.Answers.{Refuses, AnswersRun, GiveInputs, AreSmall, RunAnswer, store_lines}
 use Rattle.tdcc_tool.specs.Steps.{count_now, Goes, EndsAt, Says}
-use Rattle.tdcc_tool.proofs.AcceptedPrograms.{built_short}
 use Rattle.tdcc_tool.proofs.DeclaredLines.{same-store_lines}
 
 -- the book keeps the run over the lines that are done
@@ -243,10 +244,9 @@ refuses None new text end s o e r why es eo = tt
 refuses (Some bytes) new text end s o e r why es eo = inl (record { why = subst (λ (t : List ℕ). Refuses t e) r.is_text why; is = es; nothing = eo })
 
 -- a text that is too long is refused
-pub refuses_long : (start new : Option (List ℕ)) (text : List ℕ) (s : Status) (o e : List ℕ) → ReadsText start new text (Err stops.TooLong) → s ≡ statuses.Program → o ≡ [] → e ≡ program_line → IfSome start (λ bytes. AnswersRun bytes s o e)
+pub refuses_long : (start new : Option (List ℕ)) (text : List ℕ) (s : Status) (o e : List ℕ) → ReadsText start new text (Err stops.TooLong) → s ≡ statuses.Program → o ≡ [] → e ≡ program_line TextTooLong → IfSome start (λ bytes. AnswersRun bytes s o e)
 refuses_long None new text s o e r es eo ee = tt
-refuses_long (Some bytes) new text s o e r es eo ee =
-    let long = r.0 in inl (record { why = inl (λ p a. (let short = built_short (text_of bytes) p a in omega arith), ee); is = es; nothing = eo })
+refuses_long (Some bytes) new text s o e r es eo ee = inl (record { why = inl (TextTooLong, misread TextTooLong (λ same. cc) r.0, ee); is = es; nothing = eo })
 
 -- the answer to the trace of a program's text is the answer to the bytes
 pub accepts : (p : CoreProgram) (start new : Option (List ℕ)) (text : List ℕ) (end : TextEnd) (s : Status) (o e : List ℕ) → ReadsText start new text (Ok end) → Accepts text p → IfSome new (λ trace. RunAnswer p (lines_of trace) s o e) → IfSome start (λ bytes. AnswersRun bytes s o e)

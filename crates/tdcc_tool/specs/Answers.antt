@@ -10,7 +10,9 @@ use Rattle.agent_core.specs.Programs.{CoreProgram}
 use Rattle.agent_core.specs.Outputs.{IsRun}
 use Rattle.tdcc_tool.specs.declared.answer.End.{End}
 use Rattle.tdcc_tool.specs.Messages.{usage_line, program_line, strata_line}
+use Rattle.tdcc_reader.specs.declared.fault.ReadFault.{ReadFault}
 use Rattle.tdcc_tool.specs.Accepted.{IsBuilt, Accepts}
+use Rattle.tdcc_tool.specs.TextFaults.{HasFault}
 use Rattle.tdcc_tool.specs.Readings.{IsRefusedCase}
 use Rattle.trace_text.specs.Inputs.{GivesInput}
 use Rattle.trace_text.specs.StoreLines.{store_line}
@@ -45,10 +47,10 @@ pub record RunAnswer (p : CoreProgram) (lines : List (List ℕ)) (status : Statu
   pub status_is : status ≡ status_of end
   pub told : err ≡ end_line (length outs) end
 
--- why a text does not run, with the line that says so: it is that of no program that is built, or its program is not stratified
+-- why a text does not run, with the line that says so: it has a fault, or its program is not stratified
 abbrev pub Refuses : List ℕ → List ℕ → Type 0
 Refuses text err =
-    (((p : CoreProgram) → IsBuilt text p → ⊥) × (err ≡ program_line))
+    ((fault : ReadFault) × HasFault text fault × (err ≡ program_line fault))
     ⊎ ((p : CoreProgram) × IsBuilt text p × (guard told node : ℕ) × IsRefusedCase p guard told node × (err ≡ strata_line p guard told node))
 
 -- the answer to a text that does not run

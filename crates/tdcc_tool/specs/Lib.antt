@@ -1,6 +1,6 @@
 pub mod Messages
 pub mod Accepted
-pub mod Faults
+pub mod TextFaults
 pub mod Readings
 pub mod RunEnds
 pub mod Answers

@@ -2,6 +2,8 @@
 use Rattle.std.specs.Prelude.{ℕ, List, [], ◌∷◌, ◌++◌, codes, decimal, slice_get, Option, Some, None}
 use Rattle.agent_core.specs.declared.node.CellDecl.{CellDecl}
 use Rattle.agent_core.specs.Programs.{CoreProgram}
+use Rattle.tdcc_reader.specs.declared.fault.ReadFault.{ReadFault}
+use Rattle.tdcc_reader.specs.declared.fault.ReadFault.TheVariants as reading
 use Rattle.trace_text.specs.declared.fault.LineFault.{LineFault}
 use Rattle.trace_text.specs.declared.fault.LineFault.TheVariants.{BadToken, UnknownName, WrongKind, LineTooLong, Memory}
 
@@ -13,9 +15,28 @@ message text = codes "tdcc: " ++ text ++ 10 ∷ []
 abbrev pub usage_line : List ℕ
 usage_line = message (codes "usage")
 
--- the program text is refused
-abbrev pub program_line : List ℕ
-program_line = message (codes "program: not built yet at lexeme 0")
+-- what is said of the fault of a program text; of want of memory nothing is said
+abbrev pub program_fault_text : ReadFault → List ℕ
+program_fault_text reading.TextTooLong = codes "text over 65536 bytes"
+program_fault_text (reading.Lex offset) = codes "bad byte at offset " ++ decimal offset
+program_fault_text (reading.LongName lexeme) = codes "long name at lexeme " ++ decimal lexeme
+program_fault_text (reading.LongNumber lexeme) = codes "long number at lexeme " ++ decimal lexeme
+program_fault_text (reading.Later lexeme) = codes "not built yet at lexeme " ++ decimal lexeme
+program_fault_text (reading.Syntax lexeme) = codes "syntax at lexeme " ++ decimal lexeme
+program_fault_text (reading.TooDeep lexeme) = codes "too deep at lexeme " ++ decimal lexeme
+program_fault_text (reading.TooManyTokens lexeme) = codes "too many tokens at lexeme " ++ decimal lexeme
+program_fault_text (reading.DoubleName lexeme) = codes "double name at lexeme " ++ decimal lexeme
+program_fault_text (reading.EmptyDomain lexeme) = codes "empty domain at lexeme " ++ decimal lexeme
+program_fault_text (reading.UnknownName lexeme) = codes "unknown name at lexeme " ++ decimal lexeme
+program_fault_text (reading.WrongKind lexeme) = codes "wrong kind at lexeme " ++ decimal lexeme
+program_fault_text reading.TooManyDeclared = codes "over 256 declared cells"
+program_fault_text reading.TooManyNodes = codes "over 4096 nodes"
+program_fault_text reading.TooManyCells = codes "over 1024 cells"
+program_fault_text reading.Memory = []
+
+-- the program text has the fault
+abbrev pub program_line : ReadFault → List ℕ
+program_line fault = message (codes "program: " ++ program_fault_text fault)
 
 -- the name of a cell
 abbrev pub cell_name : Option CellDecl → List ℕ

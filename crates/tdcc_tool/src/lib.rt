@@ -4,6 +4,7 @@
 mod answer;
 mod instant;
 mod laws;
+mod messages;
 mod reading;
 mod run;
 mod store_line;

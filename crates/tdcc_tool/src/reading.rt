@@ -1,18 +1,17 @@
-ghost use Rattle.std.specs.Prelude.{◌≡◌, ◌<◌, ◌⊎◌, IfErr, IfOk, MatchOption, length};
-ghost use Rattle.agent_core.specs.Programs.{CoreProgram};
-ghost use Rattle.tdcc_reader.specs.Surfaces.{SurfaceProgram};
-ghost use Rattle.tdcc_reader.specs.Texts.{ReadsAs};
+//! What a program text is.
+ghost use Rattle.std.specs.Prelude.{◌≡◌, ◌≢◌, IfErr, IfOk};
+ghost use Rattle.tdcc_reader.specs.declared.fault.ReadFault.TheVariants.{Memory as OutOfMemory};
 ghost use Rattle.tdcc_tool.specs.declared.answer.Stop as Stop;
-ghost use Rattle.tdcc_tool.specs.Accepted.{IsBuilt, IsCoreOf};
-ghost use Rattle.tdcc_tool.specs.Faults.{is_memory as is_memory_of};
+ghost use Rattle.tdcc_tool.specs.Accepted.{IsBuilt};
 ghost use Rattle.tdcc_tool.specs.Readings.{IsReadingOf};
+ghost use Rattle.tdcc_tool.specs.TextFaults.{HasFault};
 
 use crate::answer::Stop;
 use agent_core::{Levels, Program};
 use derived_forms::{ExpandFault, expand};
 use std::alloc::Global;
 use strata::{StrataFault, strata};
-use tdcc_reader::{ReadFault, Surface, read_program as read_surface};
+use tdcc_reader::{ReadFault, read_program as read_surface};
 
 /// What a text is.
 #[derive(Drop)]
@@ -22,8 +21,10 @@ pub enum Reading {
         program: Program,
         levels: Levels,
     },
-    /// No program of a form that is built.
-    NotBuilt,
+    /// No program that is read, for this fault, which is not want of memory.
+    Refused {
+        fault: ReadFault,
+    },
     /// A program that no table stratifies, and the first case that shows it.
     NotStratified {
         program: Program,
@@ -33,54 +34,21 @@ pub enum Reading {
     },
 }
 
-/// Whether the refusal is want of memory.
-fn is_memory(fault: ReadFault) -> bool
-    ensures { result ≡ is_memory_of fault }
+/// The core program of a text.
+fn program_of(alloc: Global, text: &[u8]) -> Result<Program, ReadFault>
+    ensures found { IfOk result (IsBuilt text.now) }
+    ensures fault { IfErr result (λ fault. fault ≢ OutOfMemory → HasFault text.now fault) }
 {
-    matches!(fault, ReadFault::Memory)
-}
-
-/// The surface of a text, where the text is accepted.
-fn surface_of(alloc: Global, text: &[u8]) -> Result<Option<Surface>, Stop>
-    ensures found { IfOk result (λ found. MatchOption found ((s : SurfaceProgram) → ReadsAs text.now s → ⊥) (ReadsAs text.now)) }
-    ensures only { IfErr result (λ stop. stop ≡ Stop.Memory) }
-{
-    match read_surface(alloc, text) {
-        Ok(surface) => Ok(Some(surface)),
-        Err(fault) => {
-            if is_memory(fault) {
-                return Err(Stop::Memory);
-            }
-            Ok(None)
-        }
-    }
-}
-
-/// The core program of a surface, where it keeps the limits.
-fn program_of(alloc: Global, surface: &Surface) -> Result<Option<Program>, Stop>
-    ensures found { IfOk result (λ found. MatchOption found ((4096 < length surface.now.forms) ⊎ (1024 < length surface.now.cells)) (IsCoreOf surface.now)) }
-    ensures only { IfErr result (λ stop. stop ≡ Stop.Memory) }
-{
-    match expand(alloc, surface) {
+    let surface = read_surface(alloc, text)?;
+    match expand(alloc, &surface) {
         Ok(program) => {
             let _ = program.nodes();
-            Ok(Some(program))
+            Ok(program)
         }
-        Err(ExpandFault::TooManyNodes) => Ok(None),
-        Err(ExpandFault::TooManyCells) => Ok(None),
-        Err(ExpandFault::Memory) => Err(Stop::Memory),
+        Err(ExpandFault::TooManyNodes) => Err(ReadFault::TooManyNodes),
+        Err(ExpandFault::TooManyCells) => Err(ReadFault::TooManyCells),
+        Err(ExpandFault::Memory) => Err(ReadFault::Memory),
     }
-}
-
-/// The program of a text, where it is within the limits.
-fn built_program(alloc: Global, text: &[u8]) -> Result<Option<Program>, Stop>
-    ensures found { IfOk result (λ found. MatchOption found ((p : CoreProgram) → IsBuilt text.now p → ⊥) (IsBuilt text.now)) }
-    ensures only { IfErr result (λ stop. stop ≡ Stop.Memory) }
-{
-    let Some(surface) = surface_of(alloc, text)? else {
-        return Ok(None);
-    };
-    program_of(alloc, &surface)
 }
 
 /// Reads a program text.
@@ -88,8 +56,10 @@ pub fn read_program(alloc: Global, text: &[u8]) -> Result<Reading, Stop>
     ensures found { IfOk result (IsReadingOf text.now) }
     ensures only { IfErr result (λ stop. stop ≡ Stop.Memory) }
 {
-    let Some(program) = built_program(alloc, text)? else {
-        return Ok(Reading::NotBuilt);
+    let program = match program_of(alloc, text) {
+        Ok(program) => program,
+        Err(ReadFault::Memory) => return Err(Stop::Memory),
+        Err(fault) => return Ok(Reading::Refused { fault }),
     };
     match strata(alloc, &program) {
         Ok(levels) => Ok(Reading::Runs { program, levels }),

@@ -17,6 +17,7 @@ use instant_net::NetFault;
 use run_book::Book;
 use std::alloc::{AllocError, Global};
 use tdcc_base::{LineEnd, Lines, ReadStop, Source, Status};
+use tdcc_reader::ReadFault;
 use token_system::Memory;
 use trace_text::{LineFault, read_input};
 
@@ -94,12 +95,12 @@ pub fn run_lines<S: Source>(alloc: Global, lines: &mut Lines<'_, S>) -> Result<A
 {
     match lines.read_text() {
         Err(ReadStop::Read) => return Err(Stop::Read),
-        Err(ReadStop::TooLong) => return Ok(refused_program(alloc)?),
+        Err(ReadStop::TooLong) => return Ok(refused_program(alloc, ReadFault::TextTooLong)?),
         Ok(_) => {}
     }
     match read_program(alloc, lines.text())? {
         Reading::Runs { program, levels } => run_trace(alloc, program, levels, lines),
-        Reading::NotBuilt => Ok(refused_program(alloc)?),
+        Reading::Refused { fault } => Ok(refused_program(alloc, fault)?),
         Reading::NotStratified {
             program,
             guard,

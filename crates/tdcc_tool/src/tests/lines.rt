@@ -14,7 +14,7 @@ fn an_input_without_a_mark_is_all_text(rt: HostRuntime) -> Result<(), Fail> {
     let alloc = rt.alloc();
     assert_run(&rt, alloc, b"signal a;\na\n".as_slice(), "0||")?;
     assert_run(&rt, alloc, b"signal a;\na\n%%".as_slice(), "0||")?;
-    let wanted = "3||tdcc: program: not built yet at lexeme 0\n";
+    let wanted = "3||tdcc: program: bad byte at offset 12\n";
     assert_run(&rt, alloc, b"signal a;\na\n%% \na\n".as_slice(), wanted)
 }
 

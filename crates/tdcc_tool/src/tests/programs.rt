@@ -7,9 +7,6 @@ use std::test::Fail;
 use std::thread::Threads;
 use token_system::Memory;
 
-/// What is answered to a text that is refused.
-const REFUSED: &str = "3||tdcc: program: not built yet at lexeme 0\n";
-
 #[test]
 fn an_ask_that_holds_tells_at_the_first_instant_alone(rt: HostRuntime) -> Result<(), Fail> {
     let input = b"signal a, b; if a then b\n%%\na\na\n".as_slice();
@@ -72,33 +69,47 @@ fn a_program_that_depends_on_its_own_absence_is_refused(rt: HostRuntime) -> Resu
     assert_run(&rt, alloc, each_other, wanted)
 }
 
+/// Asserts that the text is refused, and what is said of it.
+fn assert_refused<R: Threads + Sync + Abort>(
+    rt: &R,
+    alloc: Global,
+    text: &str,
+    reason: &str,
+) -> Result<(), Fail> {
+    let wanted = format!(in alloc; "3||tdcc: program: {reason}\n")?;
+    assert_run(rt, alloc, text.as_bytes(), wanted.as_str())
+}
+
 #[test]
 fn texts_of_other_forms_are_refused(rt: HostRuntime) -> Result<(), Fail> {
-    let alloc = rt.alloc();
     for text in [
         "signal a, b; always if a else b\n%%\n\na\n",
         "signal a, b; when a do b",
         "signal a, b; do a watching b",
         "signal a, b; time a on b",
     ] {
-        assert_run(&rt, alloc, text.as_bytes(), REFUSED)?;
+        assert_refused(&rt, rt.alloc(), text, "not built yet at lexeme 5")?;
     }
     Ok(())
 }
 
 #[test]
 fn texts_that_are_no_program_are_refused(rt: HostRuntime) -> Result<(), Fail> {
-    let alloc = rt.alloc();
-    for text in [
-        "",
-        "signal a;",
-        "signal a; b",
-        "signal a, a; a",
-        "signal a; if then a",
-        "signal a; a ? a",
-        "signal a; {a",
+    for (text, reason) in [
+        ("", "syntax at lexeme 0"),
+        ("signal a;", "syntax at lexeme 3"),
+        ("signal a; if a then", "syntax at lexeme 6"),
+        ("signal a, b, c; if a then b else c", "syntax at lexeme 11"),
+        ("signal a; {a", "syntax at lexeme 5"),
+        ("signal a; a ? a", "bad byte at offset 12"),
+        ("signal a, a; skip", "double name at lexeme 3"),
+        ("signal a; new signal a in a", "double name at lexeme 5"),
+        ("int x in 5..4; skip", "empty domain at lexeme 3"),
+        ("b", "unknown name at lexeme 0"),
+        ("signal a; a>=3", "wrong kind at lexeme 3"),
+        ("int x in 0..1; x>=1000000000", "long number at lexeme 9"),
     ] {
-        assert_run(&rt, alloc, text.as_bytes(), REFUSED)?;
+        assert_refused(&rt, rt.alloc(), text, reason)?;
     }
     Ok(())
 }
@@ -119,60 +130,89 @@ fn repeated(
     Ok(text)
 }
 
-/// Asserts that a text with so many parts runs, and one with a part more is refused.
+/// A text of so many equal parts between a beginning and an end.
+struct Parts<'a> {
+    before: &'a [u8],
+    part: &'a [u8],
+    count: usize,
+    after: &'a [u8],
+}
+
+/// Asserts that the text runs, and that one with a part more is refused, for this reason.
 fn assert_limit<R: Threads + Sync + Abort>(
     rt: &R,
     alloc: Global,
-    before: &[u8],
-    part: &[u8],
-    count: usize,
-    after: &[u8],
+    parts: Parts<'_>,
+    reason: &str,
 ) -> Result<(), Fail> {
+    let Parts {
+        before,
+        part,
+        count,
+        after,
+    } = parts;
     let last = repeated(alloc, before, part, count, after)?;
     assert_run(rt, alloc, last.as_slice(), "0|a\n|")?;
     let more = repeated(alloc, before, part, count.saturating_add(1), after)?;
-    assert_run(rt, alloc, more.as_slice(), REFUSED)
+    let wanted = format!(in alloc; "3||tdcc: program: {reason}\n")?;
+    assert_run(rt, alloc, more.as_slice(), wanted.as_str())
 }
 
 #[test]
 fn a_text_has_up_to_65536_bytes(rt: HostRuntime) -> Result<(), Fail> {
-    assert_limit(&rt, rt.alloc(), b"signal a;a", b" ", 65_525, b"\n%%\n\n")
+    let parts = Parts {
+        before: b"signal a;a",
+        part: b" ",
+        count: 65_525,
+        after: b"\n%%\n\n",
+    };
+    assert_limit(&rt, rt.alloc(), parts, "text over 65536 bytes")
 }
 
 #[test]
 fn a_constraint_has_up_to_eight_tokens(rt: HostRuntime) -> Result<(), Fail> {
-    assert_limit(&rt, rt.alloc(), b"signal a; a", b"&a", 7, b"\n%%\n\n")
+    let parts = Parts {
+        before: b"signal a; a",
+        part: b"&a",
+        count: 7,
+        after: b"\n%%\n\n",
+    };
+    assert_limit(&rt, rt.alloc(), parts, "too many tokens at lexeme 19")
 }
 
 #[test]
 fn units_are_nested_up_to_64_deep(rt: HostRuntime) -> Result<(), Fail> {
-    assert_limit(
-        &rt,
-        rt.alloc(),
-        b"signal a; ",
-        b"if a then ",
-        63,
-        b"a\n%%\na\n",
-    )
+    let parts = Parts {
+        before: b"signal a; ",
+        part: b"if a then ",
+        count: 63,
+        after: b"a\n%%\na\n",
+    };
+    assert_limit(&rt, rt.alloc(), parts, "too deep at lexeme 195")
 }
 
 #[test]
 fn names_have_up_to_32_bytes(rt: HostRuntime) -> Result<(), Fail> {
-    assert_limit(&rt, rt.alloc(), b"signal a, n", b"n", 31, b"; a\n%%\n\n")
+    let parts = Parts {
+        before: b"signal a, n",
+        part: b"n",
+        count: 31,
+        after: b"; a\n%%\n\n",
+    };
+    assert_limit(&rt, rt.alloc(), parts, "long name at lexeme 3")
 }
 
 #[test]
 fn a_program_has_up_to_4096_nodes(rt: HostRuntime) -> Result<(), Fail> {
     let alloc = rt.alloc();
     let many = repeated(alloc, b"signal a; ", b"skip || ", 2_046, b"")?;
-    assert_limit(
-        &rt,
-        alloc,
-        many.as_slice(),
-        b"if a then ",
-        1,
-        b"a || a\n%%\n\n",
-    )
+    let parts = Parts {
+        before: many.as_slice(),
+        part: b"if a then ",
+        count: 1,
+        after: b"a || a\n%%\n\n",
+    };
+    assert_limit(&rt, alloc, parts, "over 4096 nodes")
 }
 
 /// Declarations of the signal `a` and so many others, and a program that tells `a`.
@@ -192,5 +232,6 @@ fn up_to_256_cells_are_declared(rt: HostRuntime) -> Result<(), Fail> {
     let last = declarations(alloc, 255)?;
     assert_run(&rt, alloc, last.as_slice(), "0|a\n|")?;
     let more = declarations(alloc, 256)?;
-    assert_run(&rt, alloc, more.as_slice(), REFUSED)
+    let wanted = "3||tdcc: program: over 256 declared cells\n";
+    assert_run(&rt, alloc, more.as_slice(), wanted)
 }

@@ -2,7 +2,7 @@ use Rattle.std.proofs.Common.{◌≡◌, sym, ap, ◌∙◌, append_assoc}
 use Rattle.std.specs.Prelude.{string_bytes}
 use Rattle.tdcc_tool.specs.Messages.{net_line}
 use Rattle.tdcc_tool.specs.RunEnds.{end_line}
-use Rattle.tdcc_tool.proofs.answer.line_of.Goals as goal
+use Rattle.tdcc_tool.proofs.messages.end_line.Goals as goal
 
 pub returns-in_ok-to_vec-in-Net : goal.returns-in_ok-to_vec-in-Net
 returns-in_ok-to_vec-in-Net c =

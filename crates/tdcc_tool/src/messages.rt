@@ -1,0 +1,120 @@
+//! The lines for err.
+ghost use Rattle.std.specs.Prelude.{◌≡◌, ◌≢◌, IfOk, slice_get, string_bytes};
+ghost use Rattle.tdcc_reader.specs.declared.fault.ReadFault.TheVariants.{Memory as NoReading};
+ghost use Rattle.trace_text.specs.declared.fault.LineFault.TheVariants.{Memory as NoLine};
+ghost use Rattle.tdcc_tool.specs.Messages as messages;
+ghost use Rattle.tdcc_tool.specs.RunEnds as ends;
+ghost use Rattle.tdcc_tool.specs.Steps.{Says};
+
+use crate::answer::End;
+use agent_core::Program;
+use std::alloc::Global;
+use tdcc_reader::ReadFault;
+use token_system::Memory;
+use trace_text::LineFault;
+
+/// What is said of the fault of a program text.
+fn program_fault_text(alloc: Global, fault: ReadFault) -> Result<String, Memory>
+    requires { fault ≢ NoReading }
+    ensures { IfOk result (λ text. string_bytes text ≡ messages.program_fault_text fault) }
+{
+    let text = match fault {
+        ReadFault::TextTooLong => format!(in alloc; "text over 65536 bytes")?,
+        ReadFault::Lex { offset } => format!(in alloc; "bad byte at offset {offset}")?,
+        ReadFault::LongName { lexeme } => format!(in alloc; "long name at lexeme {lexeme}")?,
+        ReadFault::LongNumber { lexeme } => format!(in alloc; "long number at lexeme {lexeme}")?,
+        ReadFault::Later { lexeme } => format!(in alloc; "not built yet at lexeme {lexeme}")?,
+        ReadFault::Syntax { lexeme } => format!(in alloc; "syntax at lexeme {lexeme}")?,
+        ReadFault::TooDeep { lexeme } => format!(in alloc; "too deep at lexeme {lexeme}")?,
+        ReadFault::TooManyTokens { lexeme } => {
+            format!(in alloc; "too many tokens at lexeme {lexeme}")?
+        }
+        ReadFault::DoubleName { lexeme } => format!(in alloc; "double name at lexeme {lexeme}")?,
+        ReadFault::EmptyDomain { lexeme } => format!(in alloc; "empty domain at lexeme {lexeme}")?,
+        ReadFault::UnknownName { lexeme } => format!(in alloc; "unknown name at lexeme {lexeme}")?,
+        ReadFault::WrongKind { lexeme } => format!(in alloc; "wrong kind at lexeme {lexeme}")?,
+        ReadFault::TooManyDeclared => format!(in alloc; "over 256 declared cells")?,
+        ReadFault::TooManyNodes => format!(in alloc; "over 4096 nodes")?,
+        ReadFault::TooManyCells => format!(in alloc; "over 1024 cells")?,
+        ReadFault::Memory => unreachable!(),
+    };
+    Ok(text)
+}
+
+/// The line of a program text that has this fault.
+pub fn program_line(alloc: Global, fault: ReadFault) -> Result<Vec<u8>, Memory>
+    requires { fault ≢ NoReading }
+    ensures { IfOk result (λ line. line.items ≡ messages.program_line fault) }
+{
+    let reason = program_fault_text(alloc, fault)?;
+    let line = format!(in alloc; "tdcc: program: {reason}\n")?;
+    Ok(line.as_bytes().to_vec(alloc)?)
+}
+
+/// The name of the cell, where there is one of this number.
+fn name_of(program: &Program, cell: u32) -> &[u8]
+    ensures { result.now ≡ messages.cell_name (slice_get program.now.cells cell) }
+{
+    match program.cells().get(cell as usize) {
+        Some(decl) => decl.name.bytes(),
+        None => b"".as_slice(),
+    }
+}
+
+/// The line of a program that depends on its own absence, by the first case that shows it.
+pub fn strata_line(
+    alloc: Global,
+    program: &Program,
+    guard: u32,
+    told: u32,
+    node: u32,
+) -> Result<Vec<u8>, Memory>
+    ensures { IfOk result (λ line. line.items ≡ messages.strata_line program.now guard told node) }
+{
+    let place = format!(in alloc; " at node {node}\n")?;
+    let mut line = b"tdcc: program: not stratified, ".to_vec(alloc)?;
+    line.extend_from_slice(name_of(program, guard))?;
+    line.extend_from_slice(b" guards ")?;
+    line.extend_from_slice(name_of(program, told))?;
+    line.extend_from_slice(place.as_bytes())?;
+    Ok(line)
+}
+
+/// What is said of the fault of a line.
+fn fault_text(alloc: Global, fault: LineFault) -> Result<String, Memory>
+    requires { fault ≢ NoLine }
+    ensures { IfOk result (λ text. string_bytes text ≡ messages.fault_text fault) }
+{
+    let text = match fault {
+        LineFault::BadToken { offset } => format!(in alloc; "bad token at offset {offset}")?,
+        LineFault::UnknownName { offset } => format!(in alloc; "unknown name at offset {offset}")?,
+        LineFault::WrongKind { offset } => format!(in alloc; "wrong kind at offset {offset}")?,
+        LineFault::LineTooLong => format!(in alloc; "line over 32768 bytes")?,
+        LineFault::Memory => unreachable!(),
+    };
+    Ok(text)
+}
+
+/// The line for err where the line of this instant stops the run, for this reason.
+fn instant_line(alloc: Global, instant: u32, reason: &str) -> Result<Vec<u8>, Memory>
+    ensures { IfOk result (λ line. line.items ≡ messages.instant_line instant reason.now) }
+{
+    let line = format!(in alloc; "tdcc: trace: instant {instant}: {reason}\n")?;
+    Ok(line.as_bytes().to_vec(alloc)?)
+}
+
+/// The line for err where a run ends so at this instant.
+pub fn end_line(alloc: Global, instant: u32, end: End) -> Result<Vec<u8>, Memory>
+    requires { Says end }
+    ensures { IfOk result (λ line. line.items ≡ ends.end_line instant end) }
+{
+    match end {
+        End::Whole => Ok(Vec::new(alloc)),
+        End::Line { fault } => instant_line(alloc, instant, fault_text(alloc, fault)?.as_str()),
+        End::Many => instant_line(alloc, instant, "over 65536 instants"),
+        End::Net { leaves } => {
+            let line = format!(in alloc; "tdcc: net: instant {instant}: {leaves} leaves\n")?;
+            Ok(line.as_bytes().to_vec(alloc)?)
+        }
+    }
+}
