@@ -1,20 +1,22 @@
 -- Two answers to the same words and bytes are one.
-use Rattle.std.proofs.Common.{◌≡◌, ℕ, List, [], ◌∷◌, ◌++◌, sym, ap, ◌∙◌, subst, inl, inr}
+use Rattle.std.proofs.Common.{◌≡◌, ℕ, List, [], ◌∷◌, ◌++◌, refl, sym, ap, ◌∙◌, subst, inl, inr}
 use Rattle.std.specs.Prelude.{String}
 use Rattle.std.specs.declared.alloc.Global.{Global}
 use Rattle.tdcc_base.specs.declared.status.Status.{Status}
 use Rattle.tdcc_base.specs.Texts.{text_of, trace_of}
 use Rattle.tdcc_base.specs.Lines.{lines_of}
 use Rattle.agent_core.specs.Programs.{CoreProgram}
-use Rattle.agent_core.specs.Strata.{Edge, Each, Stratifies, IsFirstCase, edges, Reaches}
+use Rattle.agent_core.specs.Facts.{IsProgram}
+use Rattle.agent_core.specs.Strata.{Edge, Each, IsFirstCase, edges, Reaches}
 use Rattle.agent_laws.proofs.ProgramOutputs.{has_output, one_output}
 use Rattle.agent_laws.proofs.Runs.{has_run, one_run}
-use Rattle.tdcc_tool.specs.Accepted.{Accepts}
+use Rattle.tdcc_tool.specs.declared.command.Command.{Command}
+use Rattle.tdcc_tool.specs.declared.command.Command.TheVariants as commands
 use Rattle.tdcc_tool.specs.Messages.{program_line, strata_line}
-use Rattle.tdcc_tool.specs.Readings.{IsRefusedCase}
-use Rattle.tdcc_tool.specs.Answers.{RunAnswer, Refuses, AnswersRun, HaveOneAnswer}
+use Rattle.tdcc_tool.specs.RefusedCases.{IsRefusedCase}
+use Rattle.tdcc_tool.specs.Answers.{ProgramAnswer, CoreAnswer, AnswersOf, AnswersBy, IsCommand, word_of, HaveOneAnswer}
 use Rattle.tdcc_tool.specs.Laws.{AcceptedHaveOneOutput, AcceptedHaveOneRun}
-use Rattle.tdcc_tool.proofs.AcceptedPrograms.{accepted_program, one_built, one_accepted, one_text_fault, built_no_fault}
+use Rattle.tdcc_tool.proofs.AcceptedPrograms.{accepted_program, built_program, one_built, one_text_fault, built_no_fault}
 use Rattle.tdcc_tool.proofs.RunAnswers.{one_run_answer}
 
 -- FIRST CASES: there is at most one
@@ -38,35 +40,52 @@ one_refused_line p g t n g' t' n' a b =
     let nodes : n ≡ n' = sym a.node_is ∙ ap (λ (x : Edge). x.guard.node) same ∙ b.node_is in
     ap (λ (k : ℕ). strata_line p k t n) guards ∙ ap (λ (k : ℕ). strata_line p g' k n) tolds ∙ ap (λ (k : ℕ). strata_line p g' t' k) nodes
 
--- a text is refused by one line
-one_refusal : (text : List ℕ) (e e' : List ℕ) → Refuses text e → Refuses text e' → e ≡ e'
-one_refusal text e e' (inl (f, has, line)) (inl (g, has', line')) = line ∙ ap program_line (one_text_fault text f g has has') ∙ sym line'
-one_refusal text e e' (inl (f, has, line)) (inr y) = absurd (built_no_fault text y.0 f y.1 has)
-one_refusal text e e' (inr x) (inl (g, has', line')) = absurd (built_no_fault text x.0 g x.1 has')
-one_refusal text e e' (inr (p, built, g, t, n, case, line)) (inr (q, built', g', t', n', case', line')) =
-    let same : q ≡ p = one_built text q p built' built in
-    line ∙ one_refused_line p g t n g' t' n' case (subst (λ (x : CoreProgram). IsRefusedCase x g' t' n') same case') ∙ ap (λ (x : CoreProgram). strata_line x g' t' n') (sym same) ∙ sym line'
+-- ANSWERS: status, out and err are the same
 
--- and then it does not run
-pub refused_runs_not : (text : List ℕ) (e : List ℕ) (p : CoreProgram) → Refuses text e → Accepts text p → ⊥
-refused_runs_not text e p (inl (f, has, line)) a = built_no_fault text p f a.built has
-refused_runs_not text e p (inr (q, built, g, t, n, case, line)) a = case.none a.table (subst (λ (x : CoreProgram). Stratifies x a.table) (one_built text p q a.built built) a.stratified)
+abbrev pub AreSame : Status → Status → List ℕ → List ℕ → List ℕ → List ℕ → Type 0
+AreSame s s' o o' e e' = (s ≡ s') × (o ≡ o') × (e ≡ e')
 
--- the answer of `run` is one
-pub one_answer_run : (bytes : List ℕ) (s s' : Status) (o o' e e' : List ℕ) → AnswersRun bytes s o e → AnswersRun bytes s' o' e' → (s ≡ s') × (o ≡ o') × (e ≡ e')
-one_answer_run bytes s s' o o' e e' (inl x) (inl y) = (x.is ∙ sym y.is, x.nothing ∙ sym y.nothing, one_refusal (text_of bytes) e e' x.why y.why)
-one_answer_run bytes s s' o o' e e' (inl x) (inr y) = absurd (refused_runs_not (text_of bytes) e y.0 x.why y.1)
-one_answer_run bytes s s' o o' e e' (inr x) (inl y) = absurd (refused_runs_not (text_of bytes) e' x.0 y.why x.1)
-one_answer_run bytes s s' o o' e e' (inr x) (inr y) =
-    let same : y.0 ≡ x.0 = one_accepted (text_of bytes) y.0 x.0 y.1 x.1 in
-    one_run_answer x.0 (accepted_program (text_of bytes) x.0 x.1) x.1.table x.1.stratified (lines_of (trace_of bytes)) s s' o o' e e' x.2
-    (subst (λ (p : CoreProgram). RunAnswer p (lines_of (trace_of bytes)) s' o' e') same y.2)
+-- the answer of a program to its lines is one
+one_program_answer : (p : CoreProgram) (lines : List (List ℕ)) (s s' : Status) (o o' e e' : List ℕ) → IsProgram p → ProgramAnswer p lines s o e → ProgramAnswer p lines s' o' e' → AreSame s s' o o' e e'
+one_program_answer p lines s s' o o' e e' is (inl x) (inl y) =
+    (x.is ∙ sym y.is, x.nothing ∙ sym y.nothing, x.line ∙ one_refused_line p x.guard x.told x.node y.guard y.told y.node x.case y.case ∙ sym y.line)
+one_program_answer p lines s s' o o' e e' is (inl x) (inr (table, fits, y)) = absurd (x.case.none table fits)
+one_program_answer p lines s s' o o' e e' is (inr (table, fits, x)) (inl y) = absurd (y.case.none table fits)
+one_program_answer p lines s s' o o' e e' is (inr (table, fits, x)) (inr (table', fits', y)) = one_run_answer p is table fits lines s s' o o' e e' x y
+
+one_core_answer : (p : CoreProgram) (s s' : Status) (o o' e e' : List ℕ) → CoreAnswer p s o e → CoreAnswer p s' o' e' → AreSame s s' o o' e e'
+one_core_answer p s s' o o' e e' x y = (x.is ∙ sym y.is, x.written ∙ sym y.written, x.nothing ∙ sym y.nothing)
+
+one_answer_of : (command : Command) (p : CoreProgram) (bytes : List ℕ) (s s' : Status) (o o' e e' : List ℕ) → IsProgram p → AnswersOf command p bytes s o e → AnswersOf command p bytes s' o' e' → AreSame s s' o o' e e'
+one_answer_of commands.Run p bytes s s' o o' e e' is x y = one_program_answer p (lines_of (trace_of bytes)) s s' o o' e e' is x y
+one_answer_of commands.Core p bytes s s' o o' e e' is x y = one_core_answer p s s' o o' e e' x y
+
+-- the answer of a command is one
+pub one_answer_by : (command : Command) (bytes : List ℕ) (s s' : Status) (o o' e e' : List ℕ) → AnswersBy command bytes s o e → AnswersBy command bytes s' o' e' → AreSame s s' o o' e e'
+one_answer_by command bytes s s' o o' e e' (inl x) (inl y) =
+    (x.is ∙ sym y.is, x.nothing ∙ sym y.nothing, x.told ∙ ap program_line (one_text_fault (text_of bytes) x.fault y.fault x.has y.has) ∙ sym y.told)
+one_answer_by command bytes s s' o o' e e' (inl x) (inr (p, built, y)) = absurd (built_no_fault (text_of bytes) p x.fault built x.has)
+one_answer_by command bytes s s' o o' e e' (inr (p, built, x)) (inl y) = absurd (built_no_fault (text_of bytes) p y.fault built y.has)
+one_answer_by command bytes s s' o o' e e' (inr (p, built, x)) (inr (q, built', y)) =
+    let same : q ≡ p = one_built (text_of bytes) q p built' built in
+    one_answer_of command p bytes s s' o o' e e' (built_program (text_of bytes) p built) x (subst (λ (r : CoreProgram). AnswersOf command r bytes s' o' e') same y)
+
+-- words are those of one command
+words_differ : (words : List (String Global)) → IsCommand commands.Run words → IsCommand commands.Core words → ⊥
+words_differ words x y = let same : word_of commands.Run ∷ [] ≡ word_of commands.Core ∷ [] = sym x ∙ y in absurd (cc)
+
+pub one_command : (words : List (String Global)) (a b : Command) → IsCommand a words → IsCommand b words → a ≡ b
+one_command words commands.Run commands.Run x y = refl
+one_command words commands.Core commands.Core x y = refl
+one_command words commands.Run commands.Core x y = absurd (words_differ words x y)
+one_command words commands.Core commands.Run x y = absurd (words_differ words y x)
 
 -- the answer is one
 pub one_answer : (words : List (String Global)) (bytes : List ℕ) → HaveOneAnswer words bytes
-one_answer words bytes s s' o o' e e' (inl x) (inl y) = one_answer_run bytes s s' o o' e e' x.1 y.1
-one_answer words bytes s s' o o' e e' (inl x) (inr y) = absurd (y.none x.0)
-one_answer words bytes s s' o o' e e' (inr x) (inl y) = absurd (x.none y.0)
+one_answer words bytes s s' o o' e e' (inl (a, x, answer)) (inl (b, y, other)) =
+    one_answer_by a bytes s s' o o' e e' answer (subst (λ (c : Command). AnswersBy c bytes s' o' e') (one_command words b a y x) other)
+one_answer words bytes s s' o o' e e' (inl (a, x, answer)) (inr y) = absurd (y.none a x)
+one_answer words bytes s s' o o' e e' (inr x) (inl (b, y, answer)) = absurd (x.none b y)
 one_answer words bytes s s' o o' e e' (inr x) (inr y) = (x.is ∙ sym y.is, x.nothing ∙ sym y.nothing, x.told ∙ sym y.told)
 
 -- the program of an accepted text has one output

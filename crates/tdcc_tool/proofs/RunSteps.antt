@@ -1,6 +1,6 @@
 -- How a run over the lines of a trace begins, goes on and ends, by the book that it keeps.
 use Rattle.std.proofs.Common.{◌≡◌, ◌≢◌, inl, inr, ℕ, suc, ◌<◌, ◌≤◌, Bool, true, false, cond, List, [], ◌∷◌, ◌++◌, length, take, Some, None, refl, sym, ap, ◌∙◌, subst, arith, length-append, append_assoc, ◌⊎◌}
-use Rattle.std.specs.Prelude.{slice_get, Option, OnSome, IfSome, Ok, Err, ◌==◌}
+use Rattle.std.specs.Prelude.{slice_get, Option, OnSome, IfSome, IfOk, Result, Ok, Err, ◌==◌}
 use Rattle.std.proofs.lemmas.List.{append-nil, take-append-le}
 use Rattle.std.proofs.Math.Seq.{take-append_seam}
 use Rattle.std.specs.Io.KnownBytes.{prepend_known}
@@ -19,6 +19,7 @@ use Rattle.agent_core.specs.Closures.{roots}
 use Rattle.agent_core.specs.Leaves.{leaves}
 use Rattle.residuals.specs.RootLists.{listed}
 use Rattle.run_book.specs.Books.{BookView, Keeps}
+use Rattle.tdcc_tool.specs.declared.answer.Answer.{Answer}
 use Rattle.tdcc_tool.specs.declared.answer.End.{End}
 use Rattle.tdcc_tool.specs.declared.answer.End.TheVariants as ends
 use Rattle.trace_text.specs.declared.fault.LineFault.{LineFault}
@@ -26,10 +27,13 @@ use Rattle.trace_text.specs.declared.fault.LineFault.TheVariants as faults
 use Rattle.trace_text.specs.Inputs.{GivesInput}
 use Rattle.tdcc_tool.specs.Messages.{program_line}
 use Rattle.tdcc_reader.specs.declared.fault.ReadFault.TheVariants.{TextTooLong}
-use Rattle.tdcc_tool.specs.TextFaults.{misread}
-use Rattle.tdcc_tool.specs.Accepted.{Accepts}
+use Rattle.tdcc_reader.specs.declared.fault.ReadFault.{ReadFault}
+use Rattle.tdcc_tool.specs.declared.command.Command.{Command}
+use Rattle.tdcc_tool.specs.declared.command.Command.TheVariants as commands
+use Rattle.tdcc_tool.specs.TextFaults.{HasFault, misread}
+use Rattle.tdcc_tool.specs.Accepted.{IsBuilt}
 use Rattle.tdcc_tool.specs.RunEnds.{leaf_count, IsBadLine, EndsBy, status_of, end_line}
-use Rattle.tdcc_tool.specs.Answers.{Refuses, AnswersRun, GiveInputs, AreSmall, RunAnswer, store_lines}
+use Rattle.tdcc_tool.specs.Answers.{ProgramAnswer, CoreAnswer, AnswersBy, GiveInputs, AreSmall, RunAnswer, store_lines}
 use Rattle.tdcc_tool.specs.Steps.{count_now, Goes, EndsAt, Says}
 use Rattle.tdcc_tool.proofs.DeclaredLines.{same-store_lines}
 
@@ -238,21 +242,35 @@ ended_source p b (Some trace) waiting left pending line pr r =
     let h = subst (λ (l : Option (List ℕ)). ReadsLine l (prepend_known pending left) line (Ok line_ends.End)) pr.known r in
     none_waiting left pending h.1
 
--- a text that does not run is refused
-pub refuses : (start new : Option (List ℕ)) (text : List ℕ) (end : TextEnd) (s : Status) (o e : List ℕ) → ReadsText start new text (Ok end) → Refuses text e → s ≡ statuses.Program → o ≡ [] → IfSome start (λ bytes. AnswersRun bytes s o e)
-refuses None new text end s o e r why es eo = tt
-refuses (Some bytes) new text end s o e r why es eo = inl (record { why = subst (λ (t : List ℕ). Refuses t e) r.is_text why; is = es; nothing = eo })
+-- a text that has a fault is refused
+pub refuses : (command : Command) (start new : Option (List ℕ)) (text : List ℕ) (end : TextEnd) (f : ReadFault) (s : Status) (o e : List ℕ) → ReadsText start new text (Ok end) → HasFault text f → s ≡ statuses.Program → o ≡ [] → e ≡ program_line f
+    → IfSome start (λ bytes. AnswersBy command bytes s o e)
+refuses command None new text end f s o e r has es eo ee = tt
+refuses command (Some bytes) new text end f s o e r has es eo ee = inl (record { fault = f; has = subst (λ (t : List ℕ). HasFault t f) r.is_text has; is = es; nothing = eo; told = ee })
 
 -- a text that is too long is refused
-pub refuses_long : (start new : Option (List ℕ)) (text : List ℕ) (s : Status) (o e : List ℕ) → ReadsText start new text (Err stops.TooLong) → s ≡ statuses.Program → o ≡ [] → e ≡ program_line TextTooLong → IfSome start (λ bytes. AnswersRun bytes s o e)
-refuses_long None new text s o e r es eo ee = tt
-refuses_long (Some bytes) new text s o e r es eo ee = inl (record { why = inl (TextTooLong, misread TextTooLong (λ same. cc) r.0, ee); is = es; nothing = eo })
+pub refuses_long : (command : Command) (start new : Option (List ℕ)) (text : List ℕ) (s : Status) (o e : List ℕ) → ReadsText start new text (Err stops.TooLong) → s ≡ statuses.Program → o ≡ [] → e ≡ program_line TextTooLong
+    → IfSome start (λ bytes. AnswersBy command bytes s o e)
+refuses_long command None new text s o e r es eo ee = tt
+refuses_long command (Some bytes) new text s o e r es eo ee = inl (record { fault = TextTooLong; has = misread TextTooLong (λ same. cc) r.0; is = es; nothing = eo; told = ee })
 
 -- the answer to the trace of a program's text is the answer to the bytes
-pub accepts : (p : CoreProgram) (start new : Option (List ℕ)) (text : List ℕ) (end : TextEnd) (s : Status) (o e : List ℕ) → ReadsText start new text (Ok end) → Accepts text p → IfSome new (λ trace. RunAnswer p (lines_of trace) s o e) → IfSome start (λ bytes. AnswersRun bytes s o e)
-accepts p None new text end s o e r a h = tt
-accepts p (Some bytes) new text end s o e r a h =
-    inr (p, subst (λ (t : List ℕ). Accepts t p) r.is_text a, subst (λ (n : Option (List ℕ)). IfSome n (λ trace. RunAnswer p (lines_of trace) s o e)) r.trace h)
+pub accepts : (p : CoreProgram) (start new : Option (List ℕ)) (text : List ℕ) (end : TextEnd) (s : Status) (o e : List ℕ) → ReadsText start new text (Ok end) → IsBuilt text p → IfSome new (λ trace. ProgramAnswer p (lines_of trace) s o e)
+    → IfSome start (λ bytes. AnswersBy commands.Run bytes s o e)
+accepts p None new text end s o e r built h = tt
+accepts p (Some bytes) new text end s o e r built h =
+    inr (p, subst (λ (t : List ℕ). IsBuilt t p) r.is_text built, subst (λ (n : Option (List ℕ)). IfSome n (λ trace. ProgramAnswer p (lines_of trace) s o e)) r.trace h)
+
+pub accepts_if : {E : Type 0} (p : CoreProgram) (start new : Option (List ℕ)) (text : List ℕ) (end : TextEnd) (r : Result Answer E) → ReadsText start new text (Ok end) → IsBuilt text p
+    → IfOk r (λ a. IfSome new (λ trace. ProgramAnswer p (lines_of trace) a.status a.out.items a.err.items)) → IfOk r (λ a. IfSome start (λ bytes. AnswersBy commands.Run bytes a.status a.out.items a.err.items))
+accepts_if p start new text end (Err x) r built h = tt
+accepts_if p start new text end (Ok a) r built h = accepts p start new text end a.status a.out.items a.err.items r built h
+
+-- so is the core text of the program
+pub answers_core : (p : CoreProgram) (start new : Option (List ℕ)) (text : List ℕ) (end : TextEnd) (s : Status) (o e : List ℕ) → ReadsText start new text (Ok end) → IsBuilt text p → CoreAnswer p s o e
+    → IfSome start (λ bytes. AnswersBy commands.Core bytes s o e)
+answers_core p None new text end s o e r built h = tt
+answers_core p (Some bytes) new text end s o e r built h = inr (p, subst (λ (t : List ℕ). IsBuilt t p) r.is_text built, h)
 
 -- the source is at its end where the trace is
 pub accepts_end : (start new left : Option (List ℕ)) (text : List ℕ) (end : TextEnd) → ReadsText start new text (Ok end) → OnSome new (left ≡ Some []) → OnSome start (left ≡ Some [])

@@ -11,15 +11,19 @@ use Rattle.tdcc_base.specs.Lines.{lines_of}
 use Rattle.token_system.specs.Stores.{Valuation}
 use Rattle.agent_core.specs.Programs.{CoreProgram}
 use Rattle.agent_core.specs.Outputs.{IsRun}
+use Rattle.agent_core.specs.Strata.{Stratifies}
 use Rattle.agent_laws.proofs.Runs.{one_run}
+use Rattle.tdcc_tool.specs.declared.command.Command.{Command}
+use Rattle.tdcc_tool.specs.declared.command.Command.TheVariants as commands
+use Rattle.tdcc_tool.specs.Accepted.{IsBuilt}
 use Rattle.tdcc_tool.specs.declared.answer.End.{End}
 use Rattle.tdcc_tool.specs.declared.answer.End.TheVariants as ends
 use Rattle.trace_text.specs.Inputs.{GivesInput}
 use Rattle.tdcc_tool.specs.RunEnds.{EndsBy, status_of}
-use Rattle.tdcc_tool.specs.Answers.{GiveInputs, AreSmall, AnswersRun}
+use Rattle.tdcc_tool.specs.Answers.{GiveInputs, AreSmall, RunAnswer, AnswersBy, IsCommand}
 use Rattle.tdcc_tool.specs.Completeness.{IsRunnable, EndsWhole, IsRoomFor}
-use Rattle.tdcc_tool.proofs.AcceptedPrograms.{accepted_program, one_accepted}
-use Rattle.tdcc_tool.proofs.OneAnswer.{refused_runs_not}
+use Rattle.tdcc_tool.proofs.AcceptedPrograms.{built_program, one_built, built_no_fault}
+use Rattle.tdcc_tool.proofs.OneAnswer.{one_command}
 use Rattle.tdcc_tool.proofs.RunAnswers.{not_bad, within, same_front, run-front}
 use Rattle.tdcc_tool.proofs.RunSteps.{given_long}
 
@@ -59,30 +63,39 @@ module _ (p : CoreProgram) where
   front_long : (lines : List (List ℕ)) (ins : List Valuation) (n : ℕ) → GiveInputs p lines ins → n ≤ length lines → n ≤ length ins
   front_long lines ins n all le = let e = given_long p lines ins all in omega arith
 
-whole_status : (words : List (String Global)) (bytes : List ℕ) (s : Status) (o e : List ℕ) → AnswersRun bytes s o e → IsRunnable words bytes → s ≡ statuses.Ok
-whole_status words bytes s o e (inl refusal) r = absurd (refused_runs_not (text_of bytes) e r.program refusal.why r.accepted)
-whole_status words bytes s o e (inr (p, accepted, answer)) r = answer.status_is ∙ ap status_of (go r.program r.outputs (one_accepted (text_of bytes) r.program p r.accepted accepted) r.given r.run r.small)
-  where
-    lines : List (List ℕ)
-    lines = lines_of (trace_of bytes)
+module _ (bytes : List ℕ) where
+  abbrev lines : List (List ℕ)
+  lines = lines_of (trace_of bytes)
 
-    go : (q : CoreProgram) (outputs : List Valuation) → q ≡ p → GiveInputs q lines r.inputs → IsRun q r.inputs outputs → AreSmall q outputs → answer.end ≡ ends.Whole
-    go q outputs same given run small =
-        let given' = subst (λ (x : CoreProgram). GiveInputs x lines r.inputs) same given in
-        let run' = subst (λ (x : CoreProgram). IsRun x r.inputs outputs) same run in
-        let small' = subst (λ (x : CoreProgram). AreSmall x outputs) same small in
-        let le : length answer.ins ≤ length r.inputs = front_long p lines r.inputs (length answer.ins) given' (within p lines answer.ins answer.given) in
-        let all : take (length r.inputs) lines ≡ lines = take_all (length r.inputs) lines (let e = given_long p lines r.inputs given' in omega arith) in
-        let front = same_front p lines answer.ins r.inputs answer.given (subst (λ (ls : List (List ℕ)). GiveInputs p ls r.inputs) (sym all) given') le in
-        let outs : answer.outs ≡ take (length answer.ins) outputs = one_run p accepted.table (accepted_program (text_of bytes) p accepted) accepted.stratified answer.ins answer.outs (take (length answer.ins) outputs) answer.run
-        (subst (λ (xs : List Valuation). IsRun p xs (take (length answer.ins) outputs)) (sym front) (run-front p r.inputs outputs (length answer.ins) le run')) in
-        ends_whole p lines r.inputs outputs (length answer.ins) answer.end given' r.few run'.whole small' le (subst (λ (z : List Valuation). EndsBy p lines z answer.end) outs answer.ends)
+  -- a run that may go to its end ends with the status of one that did
+  whole_run : (p : CoreProgram) (s : Status) (o e : List ℕ) (table : List ℕ) → IsBuilt (text_of bytes) p → Stratifies p table → RunAnswer p lines s o e → (words : List (String Global)) → IsRunnable words bytes → s ≡ statuses.Ok
+  whole_run p s o e table built fits answer words r = answer.status_is ∙ ap status_of (go r.program r.outputs (one_built (text_of bytes) r.program p r.accepted.built built) r.given r.run r.small)
+    where
+      go : (q : CoreProgram) (outputs : List Valuation) → q ≡ p → GiveInputs q lines r.inputs → IsRun q r.inputs outputs → AreSmall q outputs → answer.end ≡ ends.Whole
+      go q outputs same given run small =
+          let given' = subst (λ (x : CoreProgram). GiveInputs x lines r.inputs) same given in
+          let run' = subst (λ (x : CoreProgram). IsRun x r.inputs outputs) same run in
+          let small' = subst (λ (x : CoreProgram). AreSmall x outputs) same small in
+          let le : length answer.ins ≤ length r.inputs = front_long p lines r.inputs (length answer.ins) given' (within p lines answer.ins answer.given) in
+          let all : take (length r.inputs) lines ≡ lines = take_all (length r.inputs) lines (let e = given_long p lines r.inputs given' in omega arith) in
+          let front = same_front p lines answer.ins r.inputs answer.given (subst (λ (ls : List (List ℕ)). GiveInputs p ls r.inputs) (sym all) given') le in
+          let outs : answer.outs ≡ take (length answer.ins) outputs = one_run p table (built_program (text_of bytes) p built) fits answer.ins answer.outs (take (length answer.ins) outputs) answer.run
+          (subst (λ (xs : List Valuation). IsRun p xs (take (length answer.ins) outputs)) (sym front) (run-front p r.inputs outputs (length answer.ins) le run')) in
+          ends_whole p lines r.inputs outputs (length answer.ins) answer.end given' r.few run'.whole small' le (subst (λ (z : List Valuation). EndsBy p lines z answer.end) outs answer.ends)
+
+  whole_status : (words : List (String Global)) (s : Status) (o e : List ℕ) → AnswersBy commands.Run bytes s o e → IsRunnable words bytes → s ≡ statuses.Ok
+  whole_status words s o e (inl x) r = absurd (built_no_fault (text_of bytes) r.program x.fault r.accepted.built x.has)
+  whole_status words s o e (inr (p, built, inl x)) r =
+      absurd (x.case.none r.accepted.table (subst (λ (q : CoreProgram). Stratifies q r.accepted.table) (one_built (text_of bytes) r.program p r.accepted.built built) r.accepted.stratified))
+  whole_status words s o e (inr (p, built, inr (table, fits, answer))) r = whole_run p s o e table built fits answer words r
 
 -- an answer to such an input is its end
-pub runs_whole : (words : List (String Global)) (left : Option (List ℕ)) (s : Status) (o e : List ℕ) (source_failed sink_failed : Type 0) → IfSome left (λ bytes. AnswersRun bytes s o e)
+pub runs_whole : (words : List (String Global)) (command : Command) (left : Option (List ℕ)) (s : Status) (o e : List ℕ) (source_failed sink_failed : Type 0) → IsCommand command words → IfSome left (λ bytes. AnswersBy command bytes s o e)
     → IfSome left (λ bytes. IsRunnable words bytes → EndsWhole s source_failed sink_failed)
-runs_whole words None s o e f g h = tt
-runs_whole words (Some bytes) s o e f g h = λ r. subst (λ (x : Status). EndsWhole x f g) (sym (whole_status words bytes s o e h r)) tt
+runs_whole words command None s o e f g is h = tt
+runs_whole words command (Some bytes) s o e f g is h = λ r.
+    let same = one_command words command commands.Run is r.command in
+    subst (λ (x : Status). EndsWhole x f g) (sym (whole_status bytes words s o e (subst (λ (c : Command). AnswersBy c bytes s o e) same h) r)) tt
 
 -- a sink that is sure of room for the bytes does not refuse them
 pub no_room : {T E : Type 0} (before now : Option ℕ) (bytes o : List ℕ) (r : Result T E) → (IsOk r → ⊥) → TakesAllWithin before now (length bytes) r → bytes ≡ o → IsRoomFor before o → ⊥

@@ -8,12 +8,16 @@ use Rattle.tdcc_base.specs.Texts.{text_of, trace_of}
 use Rattle.token_system.specs.Stores.{Valuation}
 use Rattle.agent_core.specs.Programs.{CoreProgram}
 use Rattle.agent_core.specs.Outputs.{IsRun}
+use Rattle.agent_core.specs.Strata.{Stratifies}
+use Rattle.core_text.specs.CoreTexts.{core_text}
 use Rattle.tdcc_tool.specs.declared.answer.End.{End}
 use Rattle.tdcc_tool.specs.Messages.{usage_line, program_line, strata_line}
 use Rattle.tdcc_reader.specs.declared.fault.ReadFault.{ReadFault}
-use Rattle.tdcc_tool.specs.Accepted.{IsBuilt, Accepts}
+use Rattle.tdcc_tool.specs.declared.command.Command.{Command}
+use Rattle.tdcc_tool.specs.declared.command.Command.TheVariants as commands
+use Rattle.tdcc_tool.specs.Accepted.{IsBuilt}
 use Rattle.tdcc_tool.specs.TextFaults.{HasFault}
-use Rattle.tdcc_tool.specs.Readings.{IsRefusedCase}
+use Rattle.tdcc_tool.specs.RefusedCases.{IsRefusedCase}
 use Rattle.trace_text.specs.Inputs.{GivesInput}
 use Rattle.trace_text.specs.StoreLines.{store_line}
 use Rattle.tdcc_tool.specs.RunEnds.{leaf_count, EndsBy, status_of, end_line}
@@ -47,38 +51,68 @@ pub record RunAnswer (p : CoreProgram) (lines : List (List ℕ)) (status : Statu
   pub status_is : status ≡ status_of end
   pub told : err ≡ end_line (length outs) end
 
--- why a text does not run, with the line that says so: it has a fault, or its program is not stratified
-abbrev pub Refuses : List ℕ → List ℕ → Type 0
-Refuses text err =
-    ((fault : ReadFault) × HasFault text fault × (err ≡ program_line fault))
-    ⊎ ((p : CoreProgram) × IsBuilt text p × (guard told node : ℕ) × IsRefusedCase p guard told node × (err ≡ strata_line p guard told node))
-
--- the answer to a text that does not run
-pub record Refusal (text : List ℕ) (status : Status) (out err : List ℕ) : Type 0 where
-  pub why : Refuses text err
+-- the answer to a text that has a fault
+pub record FaultAnswer (text : List ℕ) (status : Status) (out err : List ℕ) : Type 0 where
+  pub fault : ReadFault
+  pub has : HasFault text fault
   pub is : status ≡ statuses.Program
   pub nothing : out ≡ []
+  pub told : err ≡ program_line fault
 
--- the answer of `run` to the bytes: a program text, and then the trace
-abbrev pub AnswersRun : List ℕ → Status → List ℕ → List ℕ → Type 0
-AnswersRun bytes status out err =
-    Refusal (text_of bytes) status out err
-    ⊎ ((p : CoreProgram) × Accepts (text_of bytes) p × RunAnswer p (lines_of (trace_of bytes)) status out err)
+-- the answer to a program that is not stratified
+pub record CaseAnswer (p : CoreProgram) (status : Status) (out err : List ℕ) : Type 0 where
+  pub guard : ℕ
+  pub told : ℕ
+  pub node : ℕ
+  pub case : IsRefusedCase p guard told node
+  pub is : status ≡ statuses.Program
+  pub nothing : out ≡ []
+  pub line : err ≡ strata_line p guard told node
 
--- the words of the command `run`
-abbrev pub IsRunCommand : List (String Global) → Type 0
-IsRunCommand words = map string_bytes words ≡ codes "run" ∷ []
+-- the answer of a program to the lines of a trace: it is not stratified, or runs
+abbrev pub ProgramAnswer : CoreProgram → List (List ℕ) → Status → List ℕ → List ℕ → Type 0
+ProgramAnswer p lines status out err = CaseAnswer p status out err ⊎ ((table : List ℕ) × Stratifies p table × RunAnswer p lines status out err)
+
+-- the answer that is the core text of a program
+pub record CoreAnswer (p : CoreProgram) (status : Status) (out err : List ℕ) : Type 0 where
+  pub is : status ≡ statuses.Ok
+  pub written : out ≡ core_text p
+  pub nothing : err ≡ []
+
+-- what a command answers of a program: `run` with the trace behind its text, and `core` whether it is stratified or not
+abbrev pub AnswersOf : Command → CoreProgram → List ℕ → Status → List ℕ → List ℕ → Type 0
+AnswersOf commands.Run p bytes status out err = ProgramAnswer p (lines_of (trace_of bytes)) status out err
+AnswersOf commands.Core p bytes status out err = CoreAnswer p status out err
+
+-- the answer of a command to the bytes: a program text, and then the trace
+abbrev pub AnswersBy : Command → List ℕ → Status → List ℕ → List ℕ → Type 0
+AnswersBy command bytes status out err =
+    FaultAnswer (text_of bytes) status out err
+    ⊎ ((p : CoreProgram) × IsBuilt (text_of bytes) p × AnswersOf command p bytes status out err)
+
+-- the word of a command
+abbrev pub word_of : Command → List ℕ
+word_of commands.Run = codes "run"
+word_of commands.Core = codes "core"
+
+-- the words are those of the command
+abbrev pub IsCommand : Command → List (String Global) → Type 0
+IsCommand command words = map string_bytes words ≡ word_of command ∷ []
+
+-- the words are those of none of the commands
+abbrev pub IsNoCommand : List (String Global) → Type 0
+IsNoCommand words = (command : Command) → IsCommand command words → ⊥
 
 -- the answer to words that are none of the tool's
 pub record UsageAnswer (words : List (String Global)) (status : Status) (out err : List ℕ) : Type 0 where
-  pub none : IsRunCommand words → ⊥
+  pub none : IsNoCommand words
   pub is : status ≡ statuses.Usage
   pub nothing : out ≡ []
   pub told : err ≡ usage_line
 
 -- the answer to the words and the bytes
 abbrev pub Answers : List (String Global) → List ℕ → Status → List ℕ → List ℕ → Type 0
-Answers words bytes status out err = (IsRunCommand words × AnswersRun bytes status out err) ⊎ UsageAnswer words status out err
+Answers words bytes status out err = ((command : Command) × IsCommand command words × AnswersBy command bytes status out err) ⊎ UsageAnswer words status out err
 
 -- the words and the bytes have at most one answer
 abbrev pub HaveOneAnswer : List (String Global) → List ℕ → Type 0

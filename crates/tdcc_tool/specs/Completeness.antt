@@ -8,12 +8,13 @@ use Rattle.tdcc_base.specs.declared.status.Status.TheVariants as statuses
 use Rattle.token_system.specs.Stores.{Valuation}
 use Rattle.agent_core.specs.Programs.{CoreProgram}
 use Rattle.agent_core.specs.Outputs.{IsRun}
+use Rattle.tdcc_tool.specs.declared.command.Command.TheVariants as commands
 use Rattle.tdcc_tool.specs.Accepted.{Accepts}
-use Rattle.tdcc_tool.specs.Answers.{GiveInputs, AreSmall, IsRunCommand}
+use Rattle.tdcc_tool.specs.Answers.{GiveInputs, AreSmall, IsCommand}
 
 -- the words are those of `run`, the text is a program that runs, each line of the trace, of which there are not too many, gives an input, and no instant of the run on these has too many leaves
 pub record IsRunnable (words : List (String Global)) (bytes : List ℕ) : Type 0 where
-  pub command : IsRunCommand words
+  pub command : IsCommand commands.Run words
   pub program : CoreProgram
   pub accepted : Accepts (text_of bytes) program
   pub inputs : List Valuation

@@ -9,13 +9,13 @@ IsSettled statuses.Write = ⊥
 IsSettled statuses.Memory = ⊥
 IsSettled _ = Unit {0}
 
--- how a run that was not cut short ends
-abbrev pub IsRunEnd : Status → Type 0
-IsRunEnd statuses.Ok = Unit {0}
-IsRunEnd statuses.Program = Unit {0}
-IsRunEnd statuses.Trace = Unit {0}
-IsRunEnd statuses.Net = Unit {0}
-IsRunEnd _ = ⊥
+-- how a command that was not cut short ends
+abbrev pub IsCommandEnd : Status → Type 0
+IsCommandEnd statuses.Ok = Unit {0}
+IsCommandEnd statuses.Program = Unit {0}
+IsCommandEnd statuses.Trace = Unit {0}
+IsCommandEnd statuses.Net = Unit {0}
+IsCommandEnd _ = ⊥
 
 -- what the tool may end with
 abbrev pub IsToolStatus : Status → Type 0

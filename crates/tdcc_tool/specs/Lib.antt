@@ -1,7 +1,7 @@
 pub mod Messages
 pub mod Accepted
 pub mod TextFaults
-pub mod Readings
+pub mod RefusedCases
 pub mod RunEnds
 pub mod Answers
 pub mod Cuts

@@ -1,7 +1,7 @@
 //! What a run ends with, and what is written then.
 ghost use Rattle.std.specs.Prelude.{◌≡◌, ◌≢◌, [], IfOk, length};
 ghost use Rattle.tdcc_reader.specs.declared.fault.ReadFault.TheVariants.{Memory as OutOfMemory};
-ghost use Rattle.tdcc_tool.specs.Answers.{store_lines};
+ghost use Rattle.tdcc_tool.specs.Answers.{store_lines, CoreAnswer};
 ghost use Rattle.tdcc_tool.specs.Messages.{program_line as program_line_of, strata_line as strata_line_of};
 ghost use Rattle.tdcc_tool.specs.RunEnds.{end_line as end_line_of, status_of};
 ghost use Rattle.tdcc_tool.specs.Steps.{Says};
@@ -9,6 +9,7 @@ ghost use Rattle.tdcc_tool.specs.Steps.{Says};
 use crate::messages::{end_line, program_line, strata_line};
 use crate::store_line::write_stores;
 use agent_core::Program;
+use core_text::print_core;
 use run_book::Book;
 use std::alloc::{AllocError, AllocFailed, Global};
 use tdcc_base::Status;
@@ -112,6 +113,19 @@ pub fn refused_case(
         status: Status::Program,
         out: Vec::new(alloc),
         err: strata_line(alloc, program, guard, told, node)?,
+    })
+}
+
+/// The answer that is the core text of the program.
+pub fn core_answer(alloc: Global, program: &Program) -> Result<Answer, Memory>
+    ensures { IfOk result (λ a. CoreAnswer program.now a.status a.out.items a.err.items) }
+{
+    let mut out = Vec::new(alloc);
+    print_core(program, &mut out)?;
+    Ok(Answer {
+        status: Status::Ok,
+        out,
+        err: Vec::new(alloc),
     })
 }
 

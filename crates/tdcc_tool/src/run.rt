@@ -1,21 +1,23 @@
-//! A run: its program, and then the lines of its trace.
+//! A command: the program text, and for a run the lines of its trace.
 ghost use Rattle.std.specs.Prelude.{◌≡◌, ◌≤◌, [], IfOk, IfSome, MatchOption, OnSome, IsNone, IsErrOf, Some};
 ghost use Rattle.tdcc_base.specs.Causes.{Rose};
 ghost use Rattle.tdcc_base.specs.Promises.{StaysSteady};
 ghost use Rattle.tdcc_base.specs.Lines.{lines_of};
 ghost use Rattle.tdcc_base.specs.Waiting.{waiting, source_of, stop_of, LinesReady, IsFirst, name_of};
 ghost use Rattle.agent_core.specs.Strata.{Stratifies};
-ghost use Rattle.tdcc_tool.specs.Answers.{AnswersRun, RunAnswer};
-ghost use Rattle.tdcc_tool.specs.Ends.{IsRunEnd};
+ghost use Rattle.tdcc_tool.specs.Answers.{AnswersBy, ProgramAnswer, RunAnswer};
+ghost use Rattle.tdcc_tool.specs.Ends.{IsCommandEnd};
 ghost use Rattle.tdcc_tool.specs.Steps.{EndsAt, Goes};
 
-use crate::answer::{Answer, End, Stop, finish, refused_case, refused_program};
+use crate::answer::{Answer, End, Stop, core_answer, finish, refused_case, refused_program};
+use crate::command::Command;
 use crate::instant::run_instant;
-use crate::reading::{Reading, read_program};
+use crate::reading::program_of;
 use agent_core::{Levels, Program};
 use instant_net::NetFault;
 use run_book::Book;
 use std::alloc::{AllocError, Global};
+use strata::{StrataFault, strata};
 use tdcc_base::{LineEnd, Lines, ReadStop, Source, Status};
 use tdcc_reader::ReadFault;
 use token_system::Memory;
@@ -57,7 +59,7 @@ fn run_trace<S: Source>(
     ensures answer { IfOk result (λ a. IfSome (waiting S.left lines.old) (λ trace.
         RunAnswer program (lines_of trace) a.status a.out.items a.err.items)) }
     ensures ended { IfOk result (λ a. a.status ≡ Status.Ok → OnSome (waiting S.left lines.old) (S.left (source_of lines.new) ≡ Some [])) }
-    ensures run_end { IfOk result (λ a. IsRunEnd a.status) }
+    ensures command_end { IfOk result (λ a. IsCommandEnd a.status) }
     ensures later { S.faults (source_of lines.old) ≤ S.faults (source_of lines.new) }
     ensures read { IsErrOf result Stop.Read → Rose (S.faults (source_of lines.old)) (S.faults (source_of lines.new)) }
     ensures steady { StaysSteady (S.steady (source_of lines.old)) (S.steady (source_of lines.new)) (IsErrOf result Stop.Read) }
@@ -82,13 +84,43 @@ fn run_trace<S: Source>(
     }
 }
 
-/// Answers the program text and the lines after it.
-pub fn run_lines<S: Source>(alloc: Global, lines: &mut Lines<'_, S>) -> Result<Answer, Stop>
+/// Answers the lines of the trace, where the program is stratified.
+fn run_program<S: Source>(
+    alloc: Global,
+    program: Program,
+    lines: &mut Lines<'_, S>,
+) -> Result<Answer, Stop>
+    requires ready { LinesReady S.left lines.old }
+    requires going_on { IsNone (stop_of lines.old) }
+    ensures same_reference { name_of lines.new ≡ name_of lines.old }
+    ensures answer { IfOk result (λ a. IfSome (waiting S.left lines.old) (λ trace.
+        ProgramAnswer program (lines_of trace) a.status a.out.items a.err.items)) }
+    ensures ended { IfOk result (λ a. a.status ≡ Status.Ok → OnSome (waiting S.left lines.old) (S.left (source_of lines.new) ≡ Some [])) }
+    ensures command_end { IfOk result (λ a. IsCommandEnd a.status) }
+    ensures later { S.faults (source_of lines.old) ≤ S.faults (source_of lines.new) }
+    ensures read { IsErrOf result Stop.Read → Rose (S.faults (source_of lines.old)) (S.faults (source_of lines.new)) }
+    ensures steady { StaysSteady (S.steady (source_of lines.old)) (S.steady (source_of lines.new)) (IsErrOf result Stop.Read) }
+{
+    match strata(alloc, &program) {
+        Ok(levels) => run_trace(alloc, program, levels, lines),
+        Err(StrataFault::NotStratified { guard, told, node }) => {
+            Ok(refused_case(alloc, &program, guard, told, node)?)
+        }
+        Err(StrataFault::Memory) => Err(Stop::Memory),
+    }
+}
+
+/// Does what the command says with the program text and the lines after it.
+pub fn answer_lines<S: Source>(
+    alloc: Global,
+    command: Command,
+    lines: &mut Lines<'_, S>,
+) -> Result<Answer, Stop>
     requires first { IsFirst S.left lines.old }
     ensures same_reference { name_of lines.new ≡ name_of lines.old }
-    ensures answer { IfOk result (λ a. IfSome (waiting S.left lines.old) (λ bytes. AnswersRun bytes a.status a.out.items a.err.items)) }
-    ensures ended { IfOk result (λ a. a.status ≡ Status.Ok → OnSome (waiting S.left lines.old) (S.left (source_of lines.new) ≡ Some [])) }
-    ensures run_end { IfOk result (λ a. IsRunEnd a.status) }
+    ensures answer { IfOk result (λ a. IfSome (waiting S.left lines.old) (λ bytes. AnswersBy command bytes a.status a.out.items a.err.items)) }
+    ensures ended { IfOk result (λ a. command ≡ Command.Run → a.status ≡ Status.Ok → OnSome (waiting S.left lines.old) (S.left (source_of lines.new) ≡ Some [])) }
+    ensures command_end { IfOk result (λ a. IsCommandEnd a.status) }
     ensures later { S.faults (source_of lines.old) ≤ S.faults (source_of lines.new) }
     ensures read { IsErrOf result Stop.Read → Rose (S.faults (source_of lines.old)) (S.faults (source_of lines.new)) }
     ensures steady { StaysSteady (S.steady (source_of lines.old)) (S.steady (source_of lines.new)) (IsErrOf result Stop.Read) }
@@ -98,14 +130,13 @@ pub fn run_lines<S: Source>(alloc: Global, lines: &mut Lines<'_, S>) -> Result<A
         Err(ReadStop::TooLong) => return Ok(refused_program(alloc, ReadFault::TextTooLong)?),
         Ok(_) => {}
     }
-    match read_program(alloc, lines.text())? {
-        Reading::Runs { program, levels } => run_trace(alloc, program, levels, lines),
-        Reading::Refused { fault } => Ok(refused_program(alloc, fault)?),
-        Reading::NotStratified {
-            program,
-            guard,
-            told,
-            node,
-        } => Ok(refused_case(alloc, &program, guard, told, node)?),
+    let program = match program_of(alloc, lines.text()) {
+        Ok(program) => program,
+        Err(ReadFault::Memory) => return Err(Stop::Memory),
+        Err(fault) => return Ok(refused_program(alloc, fault)?),
+    };
+    match command {
+        Command::Run => run_program(alloc, program, lines),
+        Command::Core => Ok(core_answer(alloc, &program)?),
     }
 }

@@ -1,6 +1,7 @@
 //! What `tdcc` answers over devices in memory.
 ghost use Rattle.std.specs.Prelude.{◌<◌};
 
+mod core_texts;
 mod devices;
 mod lines;
 mod over_time;

@@ -2,26 +2,17 @@ ghost use Rattle.std.specs.Prelude.{◌≡◌, ◌↔◌, ℕ, List, [], IfOk, I
 ghost use Rattle.std.specs.Io.KnownBytes.{Appends, Consumes};
 ghost use Rattle.tdcc_base.specs.Causes.{Rose};
 ghost use Rattle.tdcc_base.specs.Written.{Tells};
-ghost use Rattle.tdcc_tool.specs.Answers.{Answers, AnswersRun, IsRunCommand};
+ghost use Rattle.tdcc_tool.specs.Answers.{Answers, AnswersBy, IsCommand, IsNoCommand};
 ghost use Rattle.tdcc_tool.specs.Completeness.{IsRunnable, EndsWhole, IsRoomFor};
 ghost use Rattle.tdcc_tool.specs.Cuts.{CutsOut, own_line};
-ghost use Rattle.tdcc_tool.specs.Ends.{IsSettled, IsRunEnd, IsToolStatus};
+ghost use Rattle.tdcc_tool.specs.Ends.{IsSettled, IsCommandEnd, IsToolStatus};
 
 use crate::answer::{Answer, Stop};
-use crate::run::run_lines;
+use crate::command::{Command, command_of};
+use crate::run::answer_lines;
 use std::alloc::Global;
 use std::thread::Threads;
 use tdcc_base::{Failed, Gate, Lines, Sink, Source, Status, write_all};
-
-/// Whether the words are those of the command `run`.
-fn is_run(words: &[String]) -> bool
-    ensures { IsTrue result ↔ IsRunCommand words.now }
-{
-    match words {
-        [word] => word.as_str() == "run",
-        _ => false,
-    }
-}
 
 /// Writes a line to err, as far as err takes it.
 fn tell<E: Sink>(err: &mut E, line: &[u8])
@@ -30,25 +21,25 @@ fn tell<E: Sink>(err: &mut E, line: &[u8])
     let _ = write_all(err, line);
 }
 
-/// Reads all there is, and answers it.
-fn answer_run<S: Source>(alloc: Global, source: &mut S) -> Result<Answer, Stop>
-    ensures answer { IfOk result (λ a. IfSome (S.left source.old) (λ bytes. AnswersRun bytes a.status a.out.items a.err.items)) }
-    ensures ended { IfOk result (λ a. a.status ≡ Status.Ok → OnSome (S.left source.old) (S.left source.new ≡ Some [])) }
+/// Reads what the command needs of the source, and answers it.
+fn answer<S: Source>(alloc: Global, command: Command, source: &mut S) -> Result<Answer, Stop>
+    ensures answer { IfOk result (λ a. IfSome (S.left source.old) (λ bytes. AnswersBy command bytes a.status a.out.items a.err.items)) }
+    ensures ended { IfOk result (λ a. command ≡ Command.Run → a.status ≡ Status.Ok → OnSome (S.left source.old) (S.left source.new ≡ Some [])) }
     ensures read { IsErrOf result Stop.Read → Rose (S.faults source.old) (S.faults source.new) }
     ensures steady { IsTrue (S.steady source.old) → IsErrOf result Stop.Read → ⊥ }
-    ensures run_end { IfOk result (λ a. IsRunEnd a.status) }
+    ensures command_end { IfOk result (λ a. IsCommandEnd a.status) }
 {
     let Ok(mut lines) = Lines::new(alloc, source) else {
         return Err(Stop::Memory);
     };
-    run_lines(alloc, &mut lines)
+    answer_lines(alloc, command, &mut lines)
 }
 
 /// Does all that the program does: reads its words and its source, writes its answer to `out` and
 /// the line of a status other than `Ok` to `err`, and answers the status.
 ///
-/// The words are the arguments behind the program's name. The whole source is read before anything is
-/// written to `out`. No thread is started and the gate is not passed yet. A fault of `err` changes no
+/// The words are the arguments behind the program's name. Of the source, `run` reads all, and `core` the
+/// program text and what a read gives with it, before anything is written to `out`. No thread is started and the gate is not passed yet. A fault of `err` changes no
 /// status.
 pub fn tdcc<R: Threads + Sync, S: Source, K: Sink, E: Sink, G: Gate>(
     rt: &R,
@@ -81,21 +72,21 @@ pub fn tdcc<R: Threads + Sync, S: Source, K: Sink, E: Sink, G: Gate>(
         IsRoomFor (K.room out.old) o → result ≡ Status.Write → ⊥ }
 
     // Words that are none of the tool's.
-    ensures usage { (IsRunCommand words.now → ⊥) ↔ (result ≡ Status.Usage) }
+    ensures usage { IsNoCommand words.now ↔ (result ≡ Status.Usage) }
     ensures usage_source { result ≡ Status.Usage → source.new ≡ source.old }
     ensures usage_out { result ≡ Status.Usage → out.new ≡ out.old }
 
     // What was read, and which statuses there are.
-    ensures ended { result ≡ Status.Ok → OnSome (S.left source.old) (S.left source.new ≡ Some []) }
+    ensures ended { IsCommand Command.Run words.now → result ≡ Status.Ok → OnSome (S.left source.old) (S.left source.new ≡ Some []) }
     ensures statuses { IsToolStatus result }
 {
     let _ = rt;
     let _ = gate;
-    if !is_run(words) {
+    let Some(command) = command_of(words) else {
         tell(err, b"tdcc: usage\n");
         return Status::Usage;
-    }
-    match answer_run(alloc, source) {
+    };
+    match answer(alloc, command, source) {
         Ok(answer) => match write_all(out, answer.out.as_slice()) {
             Ok(()) => {
                 tell(err, answer.err.as_slice());

@@ -50,6 +50,8 @@ fn words_that_are_no_command_read_nothing(rt: HostRuntime) -> Result<(), Fail> {
         "",
         "walk",
         "run run",
+        "core core",
+        "core run",
         "run --workers 65",
         "run --workers 0",
         "run --fuel 1 --fuel 1",

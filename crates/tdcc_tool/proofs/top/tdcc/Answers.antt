@@ -3,42 +3,46 @@ use Rattle.std.specs.Io.KnownBytes.{Appends}
 use Rattle.tdcc_base.specs.Written.{AppendsPart, Tells}
 use Rattle.tdcc_base.proofs.Known.{Appends-nothing}
 use Rattle.tdcc_tool.specs.Messages.{usage_line}
-use Rattle.tdcc_tool.specs.Answers.{IsRunCommand}
+use Rattle.tdcc_tool.specs.declared.command.Command.TheVariants.{Run}
+use Rattle.tdcc_tool.specs.Answers.{IsCommand}
 use Rattle.tdcc_tool.proofs.Texts.{IfSome-all, IfSome-map, IfSome-at, true_and_false}
 use Rattle.tdcc_tool.proofs.OneAnswer.{one_answer}
 use Rattle.tdcc_tool.proofs.WholeRuns.{runs_whole, no_room}
 use Rattle.tdcc_tool.proofs.top.tdcc.Goals as goal
 
-pub returns-then-not-is_run-clause-answer : goal.returns-then-not-is_run-clause-answer
-returns-then-not-is_run-clause-answer g c _ =
-    let not_run : IsRunCommand c.args.words.now → ⊥ = λ h. true_and_false c.is_run.result (c.is_run.ensures.1 h) c.if-not-is_run.true in
-    IfSome-all (g.S.Source.left c.args.source.now) _ (λ bytes. ([], usage_line, inr (record { none = not_run; is = refl; nothing = refl; told = refl }), Appends-nothing _, c.tell.ensures))
+pub returns-in_default-clause-answer : goal.returns-in_default-clause-answer
+returns-in_default-clause-answer g c _ =
+    IfSome-all (g.S.Source.left c.args.source.now) _ (λ bytes. ([], usage_line, inr (record { none = c.in_default.ensures; is = refl; nothing = refl; told = refl }), Appends-nothing _, c.tell.ensures))
+
+pub returns-in_default-clause-whole : goal.returns-in_default-clause-whole
+returns-in_default-clause-whole g c = IfSome-all (g.S.Source.left c.args.source.now) _ (λ bytes r. c.in_default.ensures Run r.command)
 
 pub returns-in-Ok-clause-cut_out : goal.returns-in-Ok-clause-cut_out
 returns-in-Ok-clause-cut_out g c bytes given known taken s o e answer =
-    let is_run : IsRunCommand c.args.words.now = c.is_run.ensures.0 c.if-not-is_run.false in
+    let called : IsCommand c.in-Some.command c.args.words.now = c.in-Some.ensures in
     let ours = IfSome-at (g.S.Source.left c.args.source.now) bytes _ known c.in-Ok.ensures.answer in
-    let same = one_answer c.args.words.now bytes c.in-Ok.answer.status s c.in-Ok.answer.out.items o _ e (inl (is_run, ours)) answer in
+    let same = one_answer c.args.words.now bytes c.in-Ok.answer.status s c.in-Ok.answer.out.items o _ e (inl (c.in-Some.command, called, ours)) answer in
     subst (AppendsPart (g.K.Sink.written c.args.out.now) (g.K.Sink.written c.write_all.new.sink)) (c.as_slice.ensures.value ∙ same.1) c.in-Err.ensures.part
 
 pub returns-in-Ok-write_all-clause-whole : goal.returns-in-Ok-write_all-clause-whole
 returns-in-Ok-write_all-clause-whole g c =
-    runs_whole c.args.words.now (g.S.Source.left c.args.source.now) c.in-Ok.answer.status c.in-Ok.answer.out.items _ _ _ c.in-Ok.ensures.answer
+    let called : IsCommand c.in-Some.command c.args.words.now = c.in-Some.ensures in
+    runs_whole c.args.words.now c.in-Some.command (g.S.Source.left c.args.source.now) c.in-Ok.answer.status c.in-Ok.answer.out.items _ _ _ called c.in-Ok.ensures.answer
 
 pub returns-in-Ok-clause-roomy : goal.returns-in-Ok-clause-roomy
 returns-in-Ok-clause-roomy g c bytes s o e known answer room is =
-    let is_run : IsRunCommand c.args.words.now = c.is_run.ensures.0 c.if-not-is_run.false in
+    let called : IsCommand c.in-Some.command c.args.words.now = c.in-Some.ensures in
     let ours = IfSome-at (g.S.Source.left c.args.source.now) bytes _ known c.in-Ok.ensures.answer in
-    let same = one_answer c.args.words.now bytes c.in-Ok.answer.status s c.in-Ok.answer.out.items o _ e (inl (is_run, ours)) answer in
+    let same = one_answer c.args.words.now bytes c.in-Ok.answer.status s c.in-Ok.answer.out.items o _ e (inl (c.in-Some.command, called, ours)) answer in
     no_room {T = Unit {0}} (g.K.Sink.room c.args.out.now) (g.K.Sink.room c.write_all.new.sink) c.as_slice.result.now o (Err c.in-Err.field-0) (λ h. true_and_false false h refl) c.in-Err.ensures.roomy (c.as_slice.ensures.value ∙ same.1) room
 
 pub returns-in-Ok-write_all-clause-answer : goal.returns-in-Ok-write_all-clause-answer
 returns-in-Ok-write_all-clause-answer g c _ =
-    let is_run : IsRunCommand c.args.words.now = c.is_run.ensures.0 c.if-not-is_run.false in
+    let called : IsCommand c.in-Some.command c.args.words.now = c.in-Some.ensures in
     IfSome-map (g.S.Source.left c.args.source.now) _ _ c.in-Ok.ensures.answer (λ bytes answer. (
       c.in-Ok.answer.out.items,
       c.in-Ok.answer.err.items,
-      inl (is_run, answer),
+      inl (c.in-Some.command, called, answer),
       subst (Appends (g.K.Sink.written c.args.out.now) (g.K.Sink.written c.write_all.new.sink)) c.as_slice.ensures.value c.in-Ok-write_all.ensures.ok,
       subst (Tells (g.E.Sink.written c.args.err.now) (g.E.Sink.written c.tell-in-Ok-write_all.new.err) (g.E.Sink.faults c.args.err.now) (g.E.Sink.faults c.tell-in-Ok-write_all.new.err)) c.as_slice-in-Ok-write_all.ensures.value c.tell-in-Ok-write_all.ensures,
     ))
