@@ -1,0 +1,7 @@
+pub mod ClosedSets
+pub mod Tellings
+pub mod Steps
+pub mod NodeLeaves
+pub mod HistoryLeaves
+pub mod Completed
+pub mod Runs
