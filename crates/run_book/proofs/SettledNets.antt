@@ -3,11 +3,10 @@ use Rattle.std.proofs.Common.{◌≡◌, ℕ, List, sym, subst, arith}
 use Rattle.token_system.specs.Stores.{Valuation}
 use Rattle.agent_core.specs.declared.node.Closure.{Closure}
 use Rattle.agent_core.specs.Programs.{CoreProgram}
-use Rattle.agent_core.specs.Facts.{IsProgram}
 use Rattle.agent_core.specs.Stores.{IsInput}
 use Rattle.agent_core.specs.Strata.{Stratifies}
 use Rattle.agent_core.specs.RootOutputs.{IsOutputOf}
-use Rattle.agent_laws.specs.Laws.{AreClosures, RootsHaveOneOutput}
+use Rattle.agent_laws.specs.Laws.{RootsHaveOneOutput}
 use Rattle.instant_net.specs.Nets.{Flat}
 use Rattle.instant_net.specs.Opened.{IsNetOf}
 use Rattle.instant_net.specs.Outputs as net
