@@ -6,6 +6,8 @@ mod devices;
 mod lines;
 mod over_time;
 mod programs;
+mod refusals;
+mod slowly;
 mod tokens;
 
 use crate::tdcc;
@@ -36,15 +38,14 @@ fn words(alloc: Global, text: &str) -> Result<Vec<String>, Memory> {
     Ok(words)
 }
 
-/// Asserts what a call with these words answers over the source and the sink.
-fn assert_over<R: Threads + Sync + Abort>(
+/// What a call with these words answers over the source and the sink.
+fn answered<R: Threads + Sync>(
     rt: &R,
     alloc: Global,
     text: &str,
     mut source: MemSource,
     mut out: MemSink,
-    wanted: &str,
-) -> Result<(), Fail> {
+) -> Result<Vec<u8>, Memory> {
     let words = words(alloc, text)?;
     let mut err = MemSink::new(alloc, 200, 200, Vec::new(alloc))?;
     let status = tdcc(
@@ -56,7 +57,19 @@ fn assert_over<R: Threads + Sync + Abort>(
         &mut err,
         &OpenGate,
     );
-    let shown = shown(alloc, status, &out, &err)?;
+    shown(alloc, status, &out, &err)
+}
+
+/// Asserts what a call with these words answers over the source and the sink.
+fn assert_over<R: Threads + Sync + Abort>(
+    rt: &R,
+    alloc: Global,
+    text: &str,
+    source: MemSource,
+    out: MemSink,
+    wanted: &str,
+) -> Result<(), Fail> {
+    let shown = answered(rt, alloc, text, source, out)?;
     assert_eq!(rt; shown.as_slice(), wanted.as_bytes());
     Ok(())
 }
@@ -86,4 +99,18 @@ fn assert_run<R: Threads + Sync + Abort>(
 ) -> Result<(), Fail> {
     let source = in_pieces(alloc, input, 4096, Vec::new(alloc))?;
     assert_over(rt, alloc, "run", source, roomy(alloc)?, wanted)
+}
+
+/// Asserts that the text is refused, and what is said of it.
+fn assert_refused<R: Threads + Sync + Abort>(
+    rt: &R,
+    alloc: Global,
+    text: &str,
+    reason: &str,
+) -> Result<(), Fail> {
+    let source = in_pieces(alloc, text.as_bytes(), 4096, Vec::new(alloc))?;
+    let shown = answered(rt, alloc, "run", source, roomy(alloc)?)?;
+    let wanted = format!(in alloc; "3||tdcc: program: {reason}\n")?;
+    assert_eq!(rt; shown.as_slice(), wanted.as_bytes(), "{text}");
+    Ok(())
 }

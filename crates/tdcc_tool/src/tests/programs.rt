@@ -1,6 +1,6 @@
 //! Which programs run, and what they tell.
 
-use super::assert_run;
+use super::{assert_refused, assert_run};
 use std::alloc::Global;
 use std::process::Abort;
 use std::test::Fail;
@@ -67,17 +67,6 @@ fn a_program_that_depends_on_its_own_absence_is_refused(rt: HostRuntime) -> Resu
     let each_other = b"signal a, b; if a else b || if b else a".as_slice();
     let wanted = "3||tdcc: program: not stratified, a guards b at node 1\n";
     assert_run(&rt, alloc, each_other, wanted)
-}
-
-/// Asserts that the text is refused, and what is said of it.
-fn assert_refused<R: Threads + Sync + Abort>(
-    rt: &R,
-    alloc: Global,
-    text: &str,
-    reason: &str,
-) -> Result<(), Fail> {
-    let wanted = format!(in alloc; "3||tdcc: program: {reason}\n")?;
-    assert_run(rt, alloc, text.as_bytes(), wanted.as_str())
 }
 
 #[test]
