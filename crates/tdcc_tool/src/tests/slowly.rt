@@ -73,6 +73,8 @@ fn programs_of_each_form_run_as_the_evaluator_says(rt: HostRuntime) -> Result<()
     let lines = ["", "a", "b", ""];
     for text in [
         "signal a, b; skip",
+        "signal a, b; a || hence a",
+        "signal a, b, c, d; if c then d || {if b then c || if a then {b || skip}} || a",
         "signal a, b; if a then b",
         "signal a, b; a || b || if a else b",
         "signal a, b, c; if a else b || if b else c",
@@ -88,6 +90,10 @@ fn programs_of_each_form_run_as_the_evaluator_says(rt: HostRuntime) -> Result<()
         "signal a, b; int x in 0..10; x>=3 || x<=5 || hence if x<=10 else b",
         "signal a, b; int x in 0..10, y in 0..10; x>=6 || x<=5 || if x=0 then a || y=2 || if b then y=3",
         "signal a, b; int x in 0..10; x>=11 || if x>=0 then b",
+        "signal a, b; int x in 0..10; if x>=0 then b || if x<=10 else a",
+        "signal a, b; int x in -999999999..999999999; x>=999999999",
+        "signal a, b; new int x in 0..3 in {x>=2 || next if x>=2 then a} ||
+            hence new int x in 0..3 in {x<=1 || next if x=2 then a}",
         "signal a, b; !a || #b || if b & !b then a || hence {if a & b else new int z in 0..1 in z=1}",
     ] {
         assert_same(&rt, rt.alloc(), text, &lines)?;
