@@ -11,3 +11,6 @@ pub mod TextSayings
 pub mod ReadBack
 pub mod TextDecisions
 pub mod LineDecisions
+pub mod Joins
+pub mod DrawnTexts
+pub mod GeneratedLines

@@ -1,5 +1,5 @@
 -- What is proved of the definitions themselves. This project's own.
-use Rattle.std.specs.Prelude.{◌≡◌, ◌≢◌, ◌⊎◌, ℕ, ◌<◌, List, Some, IsTrue, slice_get}
+use Rattle.std.specs.Prelude.{◌≡◌, ◌≢◌, ◌⊎◌, ℕ, ◌<◌, ◌≤◌, List, Some, All, IsTrue, length, slice_get}
 use Rattle.std.specs.FinMap.{get}
 use Rattle.token_system.specs.declared.name.CellName.TheVariants.{Declared}
 use Rattle.token_system.specs.Texts.{is_name}
@@ -32,3 +32,8 @@ pub record HasOwnNames (p : CoreProgram) : Type 0 where
 pub record IsDeclaredPart (p : CoreProgram) (v i : Valuation) : Type 0 where
   pub input : IsInput p i
   pub same : (n : ℕ) → n < p.declared → get v (Declared n) ≡ get i (Declared n)
+
+-- the bytes are one line, without a line feed, and at most so many
+pub record IsLine (most : ℕ) (bytes : List ℕ) : Type 0 where
+  pub no_feed : All (λ byte. byte ≢ 10) bytes
+  pub short : length bytes ≤ most

@@ -4,4 +4,6 @@ pub mod Refusals
 pub mod Tellings
 pub mod StoreLines
 pub mod Writing
+pub mod Draws
+pub mod Generated
 pub mod Laws

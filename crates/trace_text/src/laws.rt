@@ -1,11 +1,12 @@
 //! Laws of lines. Each is a function that computes nothing, and its contract is the law.
-ghost use Rattle.std.specs.Prelude.{◌≡◌, ◌≤◌, ℕ, List, length};
+ghost use Rattle.std.specs.Prelude.{◌≡◌, ◌≤◌, ℕ, List, All, length};
 ghost use Rattle.token_system.specs.Stores.{Valuation};
 ghost use Rattle.agent_core.specs.Facts.{IsProgram};
 ghost use Rattle.agent_core.specs.Programs.{CoreProgram};
 ghost use Rattle.agent_core.specs.Stores.{IsInput};
+ghost use Rattle.trace_text.specs.Generated.{program_text, trace_lines};
 ghost use Rattle.trace_text.specs.Inputs.{GivesInput};
-ghost use Rattle.trace_text.specs.Laws.{HasOneReading, HasOwnNames, IsDeclaredPart};
+ghost use Rattle.trace_text.specs.Laws.{HasOneReading, HasOwnNames, IsDeclaredPart, IsLine};
 ghost use Rattle.trace_text.specs.StoreLines.{store_line};
 
 /// A line gives exactly one input or has exactly one fault, and not both, so that what `read_input`
@@ -23,4 +24,12 @@ pub fn writing_law()
         → IsInput p v → IsInput p w → store_line p v ≡ store_line p w → v ≡ w }
     ensures short { (p : CoreProgram) (v : Valuation) → IsProgram p → HasOwnNames p → IsInput p v
         → length (store_line p v) ≤ 23039 }
+{}
+
+/// A generated program is one line, and the trace of a number has so many lines, of three signals
+/// each at most.
+pub fn generating_law()
+    ensures program { (n : ℕ) → IsLine 2000 (program_text n) }
+    ensures many { (n : ℕ) → length (trace_lines n) ≡ n }
+    ensures lines { (n : ℕ) → All (IsLine 11) (trace_lines n) }
 {}

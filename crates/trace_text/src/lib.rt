@@ -1,7 +1,10 @@
-//! The texts of a trace, both ways: a line read into a store, and a store written as a line.
+//! The texts of a trace, both ways: a line read into a store, and a store written as a line. And
+//! the generator, which makes a program and a trace from a number.
 #![tactic(auto)]
 
+mod draws;
 mod fault;
+mod generator;
 mod laws;
 mod line;
 mod piece;
@@ -9,8 +12,10 @@ mod store_line;
 mod telling;
 #[cfg(test)]
 mod tests;
+mod units;
 
 pub use fault::LineFault;
-pub use laws::{reading_law, writing_law};
+pub use generator::generate;
+pub use laws::{generating_law, reading_law, writing_law};
 pub use line::read_input;
 pub use store_line::write_store;
