@@ -7,6 +7,7 @@ use Rattle.instant_net.specs.declared.parts.NetCell.{NetCell}
 use Rattle.instant_net.specs.declared.parts.NetGuard.{NetGuard}
 use Rattle.instant_net.specs.declared.parts.NetLeaf.{NetLeaf}
 use Rattle.instant_net.specs.NamedLeaves.{Guard, Leaf}
+use Rattle.instant_net.specs.Occurrences.{Occurrence}
 use Rattle.instant_net.specs.Nets.{AtomFits, named_guard, named_kind, path_to, paths_from, IsAtOrAbove, here, above, IsBelow, atoms_of}
 use Rattle.instant_net.specs.Walks.{Grown, none, leaf, under, beside}
 use Rattle.instant_net.proofs.Lists.{get-append, get-left, get-right}
@@ -56,29 +57,50 @@ module _ (cells : List NetCell) where
   abbrev pub read : List (List Guard) → NetLeaf → Leaf
   read all l = record { kind = named_kind cells l.kind; path = path_to all l.last }
 
-  -- leaves read by any list of paths that agrees with what the guards give
-  grown-leaves : {last : Option ℕ} {path : List Guard} {k l : ℕ} {gs : List NetGuard} {ls : List NetLeaf} {out : List Leaf} → Grown cells last path k l gs ls out
-      → (paths all : List (List Guard)) → length paths ≡ k → IsBelow k last → path_to paths last ≡ path → Agree (k + length gs) (paths_from cells paths gs) all → map (read all) ls ≡ out
-  grown-leaves (none last path k l) paths all long before at same = refl
-  grown-leaves (leaf path k l x fit) paths all long before at same =
-      ap (λ (way : List Guard). record { kind = named_kind cells x.kind; path = way } ∷ []) (path-agree k paths all x.last before (λ j lt. same j (omega arith)) ∙ at)
-  grown-leaves (under path k l g gs ls out fit first past h) paths all long before at same =
+  -- the guard, read by these paths
+  abbrev pub read_guard : List (List Guard) → NetGuard → Occurrence Guard
+  read_guard all g = record { guard = named_guard cells g; path = path_to all g.above }
+
+  -- guards and leaves read by a list of paths
+  pub record IsRead (all : List (List Guard)) (gs : List NetGuard) (ls : List NetLeaf) (os : List (Occurrence Guard)) (out : List Leaf) : Type 0 where
+    pub guards : map (read_guard all) gs ≡ os
+    pub leaves : map (read all) ls ≡ out
+
+  -- they are read so by any list of paths that agrees with what the guards give
+  grown-read : {last : Option ℕ} {path : List Guard} {k l : ℕ} {gs : List NetGuard} {ls : List NetLeaf} {os : List (Occurrence Guard)} {out : List Leaf} → Grown cells last path k l gs ls os out
+      → (paths all : List (List Guard)) → length paths ≡ k → IsBelow k last → path_to paths last ≡ path → Agree (k + length gs) (paths_from cells paths gs) all → IsRead all gs ls os out
+  grown-read (none last path k l) paths all long before at same = record { guards = refl; leaves = refl }
+  grown-read (leaf path k l x fit) paths all long before at same = record {
+    guards = refl;
+    leaves = ap (λ (way : List Guard). record { kind = named_kind cells x.kind; path = way } ∷ []) (path-agree k paths all x.last before (λ j lt. same j (omega arith)) ∙ at);
+  }
+  grown-read (under path k l g gs ls os out fit first past h) paths all long before at same =
       let x : List Guard = path_to paths g.above ++ named_guard cells g ∷ [] in
       let new : path_to (paths ++ x ∷ []) (Some k) ≡ x = ap (λ (j : ℕ). slice_index_or (paths ++ x ∷ []) j []) (sym long) ∙ new_path paths x in
-      grown-leaves h (paths ++ x ∷ []) all (length-push paths x ∙ ap suc long) (omega arith) (new ∙ ap (λ (way : List Guard). way ++ named_guard cells g ∷ []) at) (λ j lt. same j (omega arith))
-  grown-leaves (beside last path k l gs ls out gs' ls' out' h h') paths all long before at same =
+      let way : path_to all g.above ≡ path = path-agree k paths all g.above before (λ j lt. same j (omega arith) ∙ agree-from paths (g ∷ gs) j (omega arith)) ∙ at in
+      let rest = grown-read h (paths ++ x ∷ []) all (length-push paths x ∙ ap suc long) (omega arith) (new ∙ ap (λ (way : List Guard). way ++ named_guard cells g ∷ []) at) (λ j lt. same j (omega arith)) in
+      record {
+        guards =
+            ap (λ (way : List Guard). record { guard = named_guard cells g; path = way } ∷ map (read_guard all) gs) way
+            ∙ ap (λ (os : List (Occurrence Guard)). record { guard = named_guard cells g; path = path } ∷ os) rest.guards;
+        leaves = rest.leaves;
+      }
+  grown-read (beside last path k l gs ls os out gs' ls' os' out' h h') paths all long before at same =
       let middle : List (List Guard) = paths_from cells paths gs in
       let wide = length-paths paths gs in
       let sum = length-append gs gs' in
       let whole : Agree (k + length gs + length gs') (paths_from cells middle gs') all = λ j lt. same j (omega arith) ∙ ap (λ (ps : List (List Guard)). slice_index_or ps j []) (paths-append paths gs gs') in
       let left : Agree (k + length gs) middle all = λ j lt. whole j (omega arith) ∙ agree-from middle gs' j (omega arith) in
       let same_last : path_to middle last ≡ path_to paths last = path-agree k paths middle last before (λ j lt. agree-from paths gs j (omega arith)) in
-      map-append (read all) ls ls'
-      ∙ ap (λ xs. xs ++ map (read all) ls') (grown-leaves h paths all long before at left)
-      ∙ ap (λ ys. out ++ ys) (grown-leaves h' middle all (omega arith) (below-more last k (k + length gs) (omega arith) before) (same_last ∙ at) whole)
+      let first = grown-read h paths all long before at left in
+      let second = grown-read h' middle all (omega arith) (below-more last k (k + length gs) (omega arith) before) (same_last ∙ at) whole in
+      record {
+        guards = map-append (read_guard all) gs gs' ∙ ap (λ xs. xs ++ map (read_guard all) gs') first.guards ∙ ap (λ ys. os ++ ys) second.guards;
+        leaves = map-append (read all) ls ls' ∙ ap (λ xs. xs ++ map (read all) ls') first.leaves ∙ ap (λ ys. out ++ ys) second.leaves;
+      }
 
-  pub grown-all : {gs : List NetGuard} {ls : List NetLeaf} {out : List Leaf} → Grown cells None [] 0 0 gs ls out → map (read (paths_from cells [] gs)) ls ≡ out
-  grown-all {gs} h = grown-leaves h [] (paths_from cells [] gs) refl tt refl (λ j lt. refl)
+  pub grown-all : {gs : List NetGuard} {ls : List NetLeaf} {os : List (Occurrence Guard)} {out : List Leaf} → Grown cells None [] 0 0 gs ls os out → IsRead (paths_from cells [] gs) gs ls os out
+  grown-all {gs} h = grown-read h [] (paths_from cells [] gs) refl tt refl (λ j lt. refl)
 
   -- WHAT GUARDS AND LEAVES NAME IS THERE
 
@@ -88,15 +110,15 @@ module _ (cells : List NetCell) where
     pub first : l ≤ g.first
     pub last : g.past ≤ past
 
-  pub grown-guard : {last : Option ℕ} {path : List Guard} {k l : ℕ} {gs : List NetGuard} {ls : List NetLeaf} {out : List Leaf} → Grown cells last path k l gs ls out
+  pub grown-guard : {last : Option ℕ} {path : List Guard} {k l : ℕ} {gs : List NetGuard} {ls : List NetLeaf} {os : List (Occurrence Guard)} {out : List Leaf} → Grown cells last path k l gs ls os out
       → IsBelow k last → (j m past : ℕ) (g : NetGuard) → m ≡ k + j → past ≡ l + length ls → slice_get gs j ≡ Some g → GuardNames m l past g
   grown-guard (none last path k l) before j m past g e f at = absurd (cc)
   grown-guard (leaf path k l x fit) before j m past g e f at = absurd (cc)
-  grown-guard (under path k l g' gs ls out fit first ends h) before zero m past g e f at =
+  grown-guard (under path k l g' gs ls os out fit first ends h) before zero m past g e f at =
       let same : g' ≡ g = cc in
       subst (GuardNames m l past) same (record { fit = fit; before = below-more g'.above k m (omega arith) before; first = omega arith; last = omega arith })
-  grown-guard (under path k l g' gs ls out fit first ends h) before (suc j) m past g e f at = grown-guard h (omega arith) j m past g (omega arith) f at
-  grown-guard (beside last path k l gs ls out gs' ls' out' h h') before j m past g e f at = elim (get-append gs gs' j g at) [
+  grown-guard (under path k l g' gs ls os out fit first ends h) before (suc j) m past g e f at = grown-guard h (omega arith) j m past g (omega arith) f at
+  grown-guard (beside last path k l gs ls os out gs' ls' os' out' h h') before j m past g e f at = elim (get-append gs gs' j g at) [
     | inl in_left ↦
         let i = grown-guard h before j m (l + length ls) g e refl in_left in
         let a = i.last in
@@ -112,15 +134,15 @@ module _ (cells : List NetCell) where
     pub fit : All (AtomFits cells) (atoms_of x.kind)
     pub before : IsBelow past x.last
 
-  pub grown-leaf : {last : Option ℕ} {path : List Guard} {k l : ℕ} {gs : List NetGuard} {ls : List NetLeaf} {out : List Leaf} → Grown cells last path k l gs ls out
+  pub grown-leaf : {last : Option ℕ} {path : List Guard} {k l : ℕ} {gs : List NetGuard} {ls : List NetLeaf} {os : List (Occurrence Guard)} {out : List Leaf} → Grown cells last path k l gs ls os out
       → IsBelow k last → (i past : ℕ) (x : NetLeaf) → past ≡ k + length gs → slice_get ls i ≡ Some x → LeafNames past x
   grown-leaf (none last path k l) before i past x e at = absurd (cc)
   grown-leaf (leaf path k l x' fit) before zero past x e at =
       let same : x' ≡ x = cc in
       subst (LeafNames past) same (record { fit = fit; before = below-more x'.last k past (omega arith) before })
   grown-leaf (leaf path k l x' fit) before (suc i) past x e at = absurd (cc)
-  grown-leaf (under path k l g gs ls out fit first ends h) before i past x e at = grown-leaf h (omega arith) i past x (omega arith) at
-  grown-leaf (beside last path k l gs ls out gs' ls' out' h h') before i past x e at = elim (get-append ls ls' i x at) [
+  grown-leaf (under path k l g gs ls os out fit first ends h) before i past x e at = grown-leaf h (omega arith) i past x (omega arith) at
+  grown-leaf (beside last path k l gs ls os out gs' ls' os' out' h h') before i past x e at = elim (get-append ls ls' i x at) [
     | inl in_left ↦
         let r = grown-leaf h before i (k + length gs) x refl in_left in
         record { fit = r.fit; before = below-more x.last (k + length gs) past (omega (arith, length-append gs gs')) r.before }
@@ -206,18 +228,18 @@ module _ (cells : List NetCell) where
         down m b (inl s) = absurd (let a = sooner b.number b.guard s in let c = b.past in omega arith)
         down m b (inr (j, f, s)) = let c = b.is in r.down m (record { number = j; guard = b.guard; stands = s; is = omega arith; first = b.first; past = b.past })
 
-    grown-under : {last : Option ℕ} {path : List Guard} {k l : ℕ} {gs : List NetGuard} {ls : List NetLeaf} {out : List Leaf} → Grown cells last path k l gs ls out
+    grown-under : {last : Option ℕ} {path : List Guard} {k l : ℕ} {gs : List NetGuard} {ls : List NetLeaf} {os : List (Occurrence Guard)} {out : List Leaf} → Grown cells last path k l gs ls os out
         → IsBelow k last → Stand k gs → (i n : ℕ) (x : NetLeaf) → n ≡ l + i → slice_get ls i ≡ Some x → IsUnder gs k n last x.last
     grown-under (none last path k l) before stand i n x e at = absurd (cc)
     grown-under (leaf path k l x' fit) before stand zero n x e at =
         let same : x' ≡ x = cc in
         subst (λ (y : NetLeaf). IsUnder [] k n x'.last y.last) same (record { up = λ m a. inl a; kept = λ m a. a; down = λ m b. absurd (let f = b.stands in cc) })
     grown-under (leaf path k l x' fit) before stand (suc i) n x e at = absurd (cc)
-    grown-under (under path k l g gs ls out fit first ends h) before stand i n x e at =
+    grown-under (under path k l g gs ls os out fit first ends h) before stand i n x e at =
         let lt = slice_get_within ls i x at in
         under_one k g gs n x.last (stand 0 k g (omega arith) refl) (omega arith) (omega arith)
         (grown-under h (omega arith) (λ j m g' f s. stand (suc j) m g' (omega arith) s) i n x e at)
-    grown-under (beside last path k l gs ls out gs' ls' out' h h') before stand i n x e at =
+    grown-under (beside last path k l gs ls os out gs' ls' os' out' h h') before stand i n x e at =
         let more : IsBelow (k + length gs) last = below-more last k (k + length gs) (omega arith) before in
         elim (get-append ls ls' i x at) [
           | inl in_left ↦
@@ -235,7 +257,7 @@ module _ (cells : List NetCell) where
     none_above m h = elim h [ ]
 
     -- the guard is above exactly the leaves between its ends
-    pub grown-over : {ls : List NetLeaf} {out : List Leaf} → Grown cells None [] 0 0 all ls out → (m : ℕ) (g : NetGuard) → slice_get all m ≡ Some g → (i : ℕ) (x : NetLeaf) → slice_get ls i ≡ Some x
+    pub grown-over : {ls : List NetLeaf} {os : List (Occurrence Guard)} {out : List Leaf} → Grown cells None [] 0 0 all ls os out → (m : ℕ) (g : NetGuard) → slice_get all m ≡ Some g → (i : ℕ) (x : NetLeaf) → slice_get ls i ≡ Some x
         → (IsAtOrAbove all m x.last → (g.first ≤ i) × (i < g.past)) × ((g.first ≤ i) × (i < g.past) → IsAtOrAbove all m x.last)
     grown-over h m g at i x s = (λ a. up (r.up m a), λ b. r.down m (record { number = m; guard = g; stands = at; is = omega arith; first = b.0; past = b.1 }))
       where

@@ -13,7 +13,7 @@ use Rattle.instant_net.specs.declared.parts.NetLeaf.{NetLeaf}
 use Rattle.instant_net.specs.NamedLeaves.{Leaf, names_of}
 use Rattle.instant_net.specs.Nets.{Flat, named_leaf, net_leaves, LeafIsWhole}
 use Rattle.instant_net.specs.Opened.{IsCellOf, IsNetOf, IsNet, strata_of}
-use Rattle.instant_net.specs.Programs.{root_leaves}
+use Rattle.instant_net.specs.Programs.{root_leaves, root_occurrences}
 use Rattle.instant_net.specs.Walks.{IsNamed, Grown}
 use Rattle.instant_net.specs.Collecting.{AreCellsFor}
 use Rattle.instant_net.proofs.Counts.{length-map}
@@ -25,12 +25,12 @@ pub cells-named : (p : CoreProgram) (table : List ℕ) (ls : List Leaf) (cells :
 cells-named p table ls cells h = All-weaker (IsCellOf p table) (IsNamed p) (λ c x. record { decl = x.decl; named = x.named; cell = x.cell }) cells h.each
 
 module _ (p : CoreProgram) (table : List ℕ) (rs : List Closure) (t strata : ℕ) (cells : List NetCell) (guards : List NetGuard) (leaves : List NetLeaf) (is : IsProgram p) (own : AreClosures p rs) (long : length table ≡ length p.cells)
-    (for_them : AreCellsFor p table (root_leaves p rs t) cells) (h : Grown cells None [] 0 0 guards leaves (root_leaves p rs t)) (top : strata ≡ strata_of table) where
+    (for_them : AreCellsFor p table (root_leaves p rs t) cells) (h : Grown cells None [] 0 0 guards leaves (root_occurrences p rs t) (root_leaves p rs t)) (top : strata ≡ strata_of table) where
   abbrev net : Flat
   net = record { instant = t; strata = strata; cells = cells; guards = guards; leaves = leaves }
 
   same : net_leaves net ≡ root_leaves p rs t
-  same = grown-all cells h
+  same = (grown-all cells h).leaves
 
   pub net-is : IsNetOf p table rs t net
   net-is = record {
@@ -51,6 +51,7 @@ module _ (p : CoreProgram) (table : List ℕ) (rs : List Closure) (t strata : �
       spoken = subst (λ ls. All (λ c. ((k : ℕ) × (c.name ≡ Declared k)) ⊎ Contains (flat_map names_of ls) c.name) cells) (sym same) for_them.spoken;
     };
     leaves = same;
+    guards = (grown-all cells h).guards;
     over = λ k g at i x s. grown-over cells guards h k g at i x s;
   }
 

@@ -10,8 +10,8 @@ use Rattle.token_system.specs.Stores.{Valuation}
 use Rattle.instant_net.specs.declared.parts.NetCell.{NetCell}
 use Rattle.instant_net.specs.declared.parts.NetGuard.{NetGuard}
 use Rattle.instant_net.specs.declared.parts.NetLeaf.{NetLeaf}
-use Rattle.instant_net.specs.NamedLeaves.{Guard, allowed, allows, entails, runs}
-use Rattle.instant_net.specs.Nets.{Flat, named, named_guard, named_leaf, path_to, paths_from, IsBelow}
+use Rattle.instant_net.specs.NamedLeaves.{Guard, allowed, allows, entails, runs, reaches}
+use Rattle.instant_net.specs.Nets.{Flat, named, named_guard, named_leaf, named_occurrence, path_to, paths_from, IsBelow}
 use Rattle.instant_net.specs.Opened.{IsNet}
 use Rattle.instant_net.specs.Readers.{above_of, ask_of, is_else_of, last_of}
 
@@ -105,6 +105,10 @@ place (Some k) = suc k
 -- a leaf runs where its whole path is free
 pub runs_free : (net : Flat) (u : Valuation) (k : ℕ) (l : NetLeaf) → slice_get net.leaves k ≡ Some l → is_free_of net u (last_of (slice_get net.leaves k)) ≡ runs u (named_leaf net l)
 runs_free net u k l e = ap (λ o. is_free_of net u (last_of o)) e
+
+-- a guard is reached where the path above it is free
+pub reaches_free : (net : Flat) (u : Valuation) (k : ℕ) (g : NetGuard) → slice_get net.guards k ≡ Some g → is_free_of net u (above_of (slice_get net.guards k)) ≡ reaches u (named_occurrence net g)
+reaches_free net u k g e = ap (λ o. is_free_of net u (above_of o)) e
 
 pub place_falls : (k : ℕ) (o p : Option ℕ) → p ≡ Some k → IsBelow k o → place o < place p
 place_falls k o p e below = subst (λ (x : Option ℕ). place o < place x) (sym e) (go o below)

@@ -7,6 +7,7 @@ use Rattle.token_system.specs.declared.name.CellName.{CellName}
 use Rattle.token_system.specs.Stores.{Valuation, store_entails, told}
 use Rattle.agent_core.specs.declared.node.Closure.{Closure}
 use Rattle.agent_core.specs.Rests.{◌⇒◌}
+use Rattle.instant_net.specs.Occurrences.{Occurrence}
 
 -- a token of a named cell
 pub record Named : Type 0 where
@@ -53,6 +54,10 @@ allows v g = allowed g.strict (entails v g.ask)
 -- the store runs the leaf: it allows each guard above it
 abbrev pub runs : Valuation → Leaf → Bool
 runs v l = list_all (allows v) l.path
+
+-- the store reaches the occurrence: it allows each guard above it
+abbrev pub reaches : Valuation → Occurrence Guard → Bool
+reaches v o = list_all (allows v) o.path
 
 -- the guard is an else, which v does not entail, or a then
 abbrev pub free : Valuation → Guard → Bool

@@ -7,6 +7,7 @@ use Rattle.instant_net.specs.declared.parts.NetGuard.{NetGuard}
 use Rattle.instant_net.specs.declared.parts.NetLeaf.{NetLeaf}
 use Rattle.instant_net.specs.declared.parts.LeafKind.{LeafKind}
 use Rattle.instant_net.specs.declared.parts.LeafKind.TheVariants as kinds
+use Rattle.instant_net.specs.Occurrences.{Occurrence}
 use Rattle.instant_net.specs.NamedLeaves.{Named, Guard, Kind, Idle, Tells, StartsHence, StartsNext, Leaf}
 
 -- what a net is seen as
@@ -53,6 +54,13 @@ named_leaf net l = record { kind = named_kind net.cells l.kind; path = path_to (
 -- the leaves of the net, with their paths and their cells by name
 abbrev pub net_leaves : Flat → List Leaf
 net_leaves net = map (named_leaf net) net.leaves
+
+abbrev pub named_occurrence : Flat → NetGuard → Occurrence Guard
+named_occurrence net g = record { guard = named_guard net.cells g; path = path_to (paths_from net.cells [] net.guards) g.above }
+
+-- the guards of the net, each with those above it and its cells by name
+abbrev pub net_occurrences : Flat → List (Occurrence Guard)
+net_occurrences net = map (named_occurrence net) net.guards
 
 -- guard k is this one, or above it
 pub data IsAtOrAbove (guards : List NetGuard) (k : ℕ) : Option ℕ → Type 0 where

@@ -8,6 +8,7 @@ use Rattle.agent_core.specs.Programs.{CoreProgram}
 use Rattle.agent_core.specs.Names.{name_of}
 use Rattle.agent_core.specs.Closures.{closure}
 use Rattle.agent_core.specs.Leaves as core
+use Rattle.instant_net.specs.Occurrences.{Occurrence, occurrences}
 use Rattle.instant_net.specs.NamedLeaves.{Named, Guard, Kind, Idle, Tells, StartsHence, StartsNext, Leaf}
 
 abbrev pub token_named : CoreProgram → List ℕ → ℕ → Token → Option CellDecl → List Named
@@ -36,6 +37,13 @@ leaf_named p l = record { kind = kind_named p l.node l.births l.agent; path = ma
 -- the leaves of these roots at instant t
 abbrev pub root_leaves : CoreProgram → List Closure → ℕ → List Leaf
 root_leaves p rs t = map (leaf_named p) (core.leaves p rs t)
+
+abbrev pub occurrence_named : CoreProgram → Occurrence core.Guard → Occurrence Guard
+occurrence_named p o = record { guard = guard_named p o.guard; path = map (guard_named p) o.path }
+
+-- the thens and elses of these roots at instant t
+abbrev pub root_occurrences : CoreProgram → List Closure → ℕ → List (Occurrence Guard)
+root_occurrences p rs t = map (occurrence_named p) (occurrences p rs t)
 
 -- how many leaves an agent has within the instant
 abbrev pub leaf_count : Agent → ℕ

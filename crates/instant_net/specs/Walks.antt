@@ -12,8 +12,9 @@ use Rattle.instant_net.specs.declared.parts.NetCell.{NetCell}
 use Rattle.instant_net.specs.declared.parts.NetGuard.{NetGuard}
 use Rattle.instant_net.specs.declared.parts.NetLeaf.{NetLeaf}
 use Rattle.instant_net.specs.NamedLeaves.{Guard, Leaf}
+use Rattle.instant_net.specs.Occurrences.{Occurrence, occurrences_of}
 use Rattle.instant_net.specs.Nets.{AtomFits, named_at, named, named_guard, named_kind, atoms_of}
-use Rattle.instant_net.specs.Programs.{token_named, ask_named, guard_named, leaf_named}
+use Rattle.instant_net.specs.Programs.{token_named, ask_named, guard_named, leaf_named, occurrence_named}
 
 -- the cell is the one that its name says
 pub record IsNamed (p : CoreProgram) (c : NetCell) : Type 0 where
@@ -50,16 +51,17 @@ pub record IsEnded (guards guards' : List NetGuard) (k past : ℕ) : Type 0 wher
   pub stands : slice_get guards k ≡ Some one
   pub ended : guards' ≡ set guards k (record one { past = past })
 
--- these guards and leaves stand below the guard `last` and the path that leads to it, the first guard has number k and the first leaf number l, and the leaves say this
-pub data Grown (cells : List NetCell) : Option ℕ → List Guard → ℕ → ℕ → List NetGuard → List NetLeaf → List Leaf → Type 0 where
-  none : (last : Option ℕ) (path : List Guard) (k l : ℕ) → Grown cells last path k l [] [] []
+-- these guards and leaves stand below the guard `last` and the path that leads to it, the first guard has number k and the first leaf number l, and the guards and the leaves say this
+pub data Grown (cells : List NetCell) : Option ℕ → List Guard → ℕ → ℕ → List NetGuard → List NetLeaf → List (Occurrence Guard) → List Leaf → Type 0 where
+  none : (last : Option ℕ) (path : List Guard) (k l : ℕ) → Grown cells last path k l [] [] [] []
   leaf : (path : List Guard) (k l : ℕ) (x : NetLeaf) → All (AtomFits cells) (atoms_of x.kind)
-      → Grown cells x.last path k l [] (x ∷ []) (record { kind = named_kind cells x.kind; path = path } ∷ [])
-  under : (path : List Guard) (k l : ℕ) (g : NetGuard) (gs : List NetGuard) (ls : List NetLeaf) (out : List Leaf) → All (AtomFits cells) g.ask → g.first ≡ l → g.past ≡ l + length ls
-      → Grown cells (Some k) (path ++ named_guard cells g ∷ []) (suc k) l gs ls out → Grown cells g.above path k l (g ∷ gs) ls out
-  beside : (last : Option ℕ) (path : List Guard) (k l : ℕ) (gs : List NetGuard) (ls : List NetLeaf) (out : List Leaf) (gs' : List NetGuard) (ls' : List NetLeaf) (out' : List Leaf)
-      → Grown cells last path k l gs ls out → Grown cells last path (k + length gs) (l + length ls) gs' ls' out'
-      → Grown cells last path k l (gs ++ gs') (ls ++ ls') (out ++ out')
+      → Grown cells x.last path k l [] (x ∷ []) [] (record { kind = named_kind cells x.kind; path = path } ∷ [])
+  under : (path : List Guard) (k l : ℕ) (g : NetGuard) (gs : List NetGuard) (ls : List NetLeaf) (os : List (Occurrence Guard)) (out : List Leaf) → All (AtomFits cells) g.ask → g.first ≡ l → g.past ≡ l + length ls
+      → Grown cells (Some k) (path ++ named_guard cells g ∷ []) (suc k) l gs ls os out → Grown cells g.above path k l (g ∷ gs) ls (record { guard = named_guard cells g; path = path } ∷ os) out
+  beside : (last : Option ℕ) (path : List Guard) (k l : ℕ) (gs : List NetGuard) (ls : List NetLeaf) (os : List (Occurrence Guard)) (out : List Leaf)
+      (gs' : List NetGuard) (ls' : List NetLeaf) (os' : List (Occurrence Guard)) (out' : List Leaf)
+      → Grown cells last path k l gs ls os out → Grown cells last path (k + length gs) (l + length ls) gs' ls' os' out'
+      → Grown cells last path k l (gs ++ gs') (ls ++ ls') (os ++ os') (out ++ out')
 
 -- guards and leaves after those of node n were added, which is started at t under births b and stands below the guard `last`
 pub record Adds (p : CoreProgram) (cells : List NetCell) (t n : ℕ) (b : List ℕ) (last : Option ℕ) (guards guards' : List NetGuard) (leaves leaves' : List NetLeaf) : Type 0 where
@@ -68,4 +70,5 @@ pub record Adds (p : CoreProgram) (cells : List NetCell) (t n : ℕ) (b : List �
   pub guards_are : guards' ≡ guards ++ more_guards
   pub leaves_are : leaves' ≡ leaves ++ more_leaves
   pub grown : (path : List core.Guard)
-      → Grown cells last (map (guard_named p) path) (length guards) (length leaves) more_guards more_leaves (map (leaf_named p) (core.leaves_of t (agent_at p.nodes n) n b path))
+      → Grown cells last (map (guard_named p) path) (length guards) (length leaves) more_guards more_leaves
+      (map (occurrence_named p) (occurrences_of t (agent_at p.nodes n) b path)) (map (leaf_named p) (core.leaves_of t (agent_at p.nodes n) n b path))

@@ -4,7 +4,7 @@ ghost use Rattle.agent_core.specs.Names.{IsClosure};
 ghost use Rattle.agent_core.specs.Scope.{TokenFits, AskFits};
 ghost use Rattle.agent_laws.specs.Laws.{AreClosures};
 ghost use Rattle.instant_net.specs.declared.parts.NetGuard.{NetGuard as GuardValue};
-ghost use Rattle.instant_net.specs.Programs.{root_leaves};
+ghost use Rattle.instant_net.specs.Programs.{root_leaves, root_occurrences};
 ghost use Rattle.instant_net.specs.Walks.{IsNamed, IsPlaceOf, IsAtomOf, AreAtomsOf, IsBegun, IsEnded, Grown, Adds};
 
 use crate::numbers::number_of;
@@ -177,7 +177,7 @@ pub(crate) fn net_parts(
 ) -> Result<Parts, Memory>
     requires cells { All (IsNamed program.now) cells.now }
     requires closures { AreClosures program.now roots.now }
-    ensures { IfOk result (λ parts. Grown cells.now None [] 0 0 parts.guards.items parts.leaves.items (root_leaves program.now roots.now t)) }
+    ensures { IfOk result (λ parts. Grown cells.now None [] 0 0 parts.guards.items parts.leaves.items (root_occurrences program.now roots.now t) (root_leaves program.now roots.now t)) }
 {
     let walk = Walk {
         alloc,

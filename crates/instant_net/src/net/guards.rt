@@ -39,7 +39,8 @@ impl Net {
     /// The nearest guard above, where there is one.
     pub fn above(&self, guard: u32) -> Option<u32>
         requires { guard < length self.now.guards }
-        ensures { result ≡ above_of (slice_get self.now.guards guard) }
+        ensures above { result ≡ above_of (slice_get self.now.guards guard) }
+        ensures net { IsNet self.now }
     {
         self.guards[guard as usize].above
     }

@@ -3,7 +3,9 @@ ghost use Rattle.std.specs.Prelude.{◌<◌, IfOk, length};
 ghost use Rattle.instant_net.specs.Words.{AreWords};
 
 use super::reading::net_of_each_kind;
-use crate::{How, Net, Told, Words, holds, open_words, put, runs, tell, value, words_store};
+use crate::{
+    How, Net, Told, Words, holds, open_words, put, reaches, runs, tell, value, words_store,
+};
 use std::alloc::Global;
 use std::test::Fail;
 use token_system::{Births, CellName, Store, Value};
@@ -77,8 +79,8 @@ fn tokens_are_told_to_the_words_of_their_cells(rt: HostRuntime) -> Result<(), Fa
     Ok(())
 }
 
-/// At first only what no guard stands above runs. With a the then lets run what is below it, the else too. With n >= 5
-/// the else is refuted.
+/// At first only what no guard stands above runs, and the else in the then is not reached. With a the then lets run what
+/// is below it, the else too. With n >= 5 the else is refuted.
 #[test]
 fn what_is_told_changes_which_leaves_run(rt: HostRuntime) -> Result<(), Fail> {
     let net = net_of_each_kind(rt.alloc())?;
@@ -87,6 +89,10 @@ fn what_is_told_changes_which_leaves_run(rt: HostRuntime) -> Result<(), Fail> {
     assert_eq!(rt;
         (holds(&net, &words, 0), holds(&net, &words, 1)),
         (false, false)
+    );
+    assert_eq!(rt;
+        (reaches(&net, &words, 0), reaches(&net, &words, 1)),
+        (true, false)
     );
     assert_eq!(rt;
         (
@@ -100,6 +106,10 @@ fn what_is_told_changes_which_leaves_run(rt: HostRuntime) -> Result<(), Fail> {
     assert_eq!(rt;
         (holds(&net, &words, 0), holds(&net, &words, 1)),
         (true, false)
+    );
+    assert_eq!(rt;
+        (reaches(&net, &words, 0), reaches(&net, &words, 1)),
+        (true, true)
     );
     assert_eq!(rt;
         (

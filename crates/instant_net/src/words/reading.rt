@@ -1,11 +1,14 @@
-//! What words say: the values of cells, the guards that they entail, and the leaves that they run.
+//! What words say: the values of cells, the guards that they entail or reach, and the leaves that they run.
 ghost use Rattle.std.specs.Prelude.{◌≡◌, ◌<◌, [], ◌∷◌, length, slice_get};
+ghost use Rattle.std.specs.List.{list_all};
 ghost use Rattle.token_system.specs.Values.{IsValueOf};
 ghost use Rattle.token_system.specs.Stores.{value_at};
 ghost use Rattle.instant_net.specs.declared.parts.NetCell.{NetCell};
+ghost use Rattle.instant_net.specs.declared.parts.NetGuard.{NetGuard};
 ghost use Rattle.instant_net.specs.declared.parts.NetLeaf.{NetLeaf};
 ghost use Rattle.instant_net.specs.NamedLeaves as named_leaves;
-ghost use Rattle.instant_net.specs.Nets.{named, named_leaf, AtomFits};
+ghost use Rattle.instant_net.specs.Nets.{named, named_leaf, named_occurrence, path_to, paths_from, AtomFits, IsBelow};
+ghost use Rattle.instant_net.specs.Opened.{IsNet};
 ghost use Rattle.instant_net.specs.Readers.{ask_of, is_else_of};
 ghost use Rattle.instant_net.specs.Words.{number_value, signal_value, store_in, value_in, AreWords};
 
@@ -100,13 +103,14 @@ fn allows(net: &Net, words: &Words, guard: u32) -> bool
     if net.is_else(guard) { !held } else { held }
 }
 
-/// Whether the words run the leaf: they entail each ask above it that is a then's, and none that is an else's.
-pub fn runs(net: &Net, words: &Words, leaf: u32) -> bool
-    requires leaf { leaf < length net.now.leaves }
+// Whether the words allow this guard, where there is one, and each guard above it.
+fn allow_path(net: &Net, words: &Words, last: Option<u32>) -> bool
+    requires net { IsNet net.now }
+    requires there { IsBelow (length net.now.guards) last }
     requires words { AreWords net.now.cells words.now }
-    ensures { (l : NetLeaf) → slice_get net.now.leaves leaf ≡ Some l → result ≡ named_leaves.runs (store_in net.now.cells words.now) (named_leaf net.now l) }
+    ensures { result ≡ list_all (named_leaves.allows (store_in net.now.cells words.now)) (path_to (paths_from net.now.cells [] net.now.guards) last) }
 {
-    let mut next = net.last_guard(leaf);
+    let mut next = last;
     while let Some(guard) = next {
         if !allows(net, words, guard) {
             return false;
@@ -114,4 +118,22 @@ pub fn runs(net: &Net, words: &Words, leaf: u32) -> bool
         next = net.above(guard);
     }
     true
+}
+
+/// Whether the words run the leaf: they entail each ask above it that is a then's, and none that is an else's.
+pub fn runs(net: &Net, words: &Words, leaf: u32) -> bool
+    requires leaf { leaf < length net.now.leaves }
+    requires words { AreWords net.now.cells words.now }
+    ensures { (l : NetLeaf) → slice_get net.now.leaves leaf ≡ Some l → result ≡ named_leaves.runs (store_in net.now.cells words.now) (named_leaf net.now l) }
+{
+    allow_path(net, words, net.last_guard(leaf))
+}
+
+/// Whether the words reach the guard: they entail each ask above it that is a then's, and none that is an else's.
+pub fn reaches(net: &Net, words: &Words, guard: u32) -> bool
+    requires guard { guard < length net.now.guards }
+    requires words { AreWords net.now.cells words.now }
+    ensures { (g : NetGuard) → slice_get net.now.guards guard ≡ Some g → result ≡ named_leaves.reaches (store_in net.now.cells words.now) (named_occurrence net.now g) }
+{
+    allow_path(net, words, net.above(guard))
 }

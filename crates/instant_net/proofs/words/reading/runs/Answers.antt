@@ -1,56 +1,14 @@
 use Rattle.std.proofs.Common.{length, sym, ap, ◌∙◌, subst}
 use Rattle.instant_net.specs.Nets.{IsBelow}
 use Rattle.instant_net.specs.Words.{store_in}
-use Rattle.instant_net.proofs.NetParts.{above_there, last_there}
-use Rattle.instant_net.proofs.PathWalks.{is_free_of, free_stops, free_above, runs_free, place_falls, still_below}
+use Rattle.instant_net.proofs.NetParts.{last_there}
+use Rattle.instant_net.proofs.PathWalks.{is_free_of, runs_free}
 use Rattle.instant_net.proofs.words.reading.runs.Goals as goal
 
-pub last_guard-next-requires : goal.last_guard-next-requires
-last_guard-next-requires c = c.requires.leaf
-
-pub loop-next-init : goal.loop-next-init
-loop-next-init c = record {
-  free = ap (is_free_of c.args.net.now (store_in c.args.net.now.cells c.args.words.now)) c.last_guard-next.ensures.last;
-  there = subst (IsBelow (length c.args.net.now.guards)) (sym c.last_guard-next.ensures.last) (last_there c.args.net.now c.last_guard-next.ensures.net c.args.leaf);
-}
-
-pub allows-requires-clause-guard : goal.allows-requires-clause-guard
-allows-requires-clause-guard c = subst (IsBelow (length c.args.net.now.guards)) c.in-Some.is c.loop-next.invariant.there
-
-pub allows-requires-clause-words : goal.allows-requires-clause-words
-allows-requires-clause-words c = c.requires.words
-
-pub returns-then-not-allows : goal.returns-then-not-allows
-returns-then-not-allows c = λ l e.
-    let there = subst (IsBelow (length c.args.net.now.guards)) c.in-Some.is c.loop-next.invariant.there in
-    sym (free_stops c.args.net.now c.last_guard-next.ensures.net (store_in c.args.net.now.cells c.args.words.now) c.in-Some.guard there c.allows.result c.allows.ensures c.if-not-allows.true)
-    ∙ sym (ap (is_free_of c.args.net.now (store_in c.args.net.now.cells c.args.words.now)) c.in-Some.is)
-    ∙ c.loop-next.invariant.free
-    ∙ runs_free c.args.net.now (store_in c.args.net.now.cells c.args.words.now) c.args.leaf l e
-
-pub above-next-requires : goal.above-next-requires
-above-next-requires c = subst (IsBelow (length c.args.net.now.guards)) c.in-Some.is c.loop-next.invariant.there
-
-pub loop-next-smaller : goal.loop-next-smaller
-loop-next-smaller c =
-    let there = subst (IsBelow (length c.args.net.now.guards)) c.in-Some.is c.loop-next.invariant.there in
-    place_falls c.in-Some.guard c.above-next.result c.loop-next.next c.in-Some.is
-    (subst (IsBelow c.in-Some.guard) (sym c.above-next.ensures) (above_there c.args.net.now c.last_guard-next.ensures.net c.in-Some.guard there))
-
-pub loop-next-preserved : goal.loop-next-preserved
-loop-next-preserved c =
-    let there = subst (IsBelow (length c.args.net.now.guards)) c.in-Some.is c.loop-next.invariant.there in
-    record {
-      free = ap (is_free_of c.args.net.now (store_in c.args.net.now.cells c.args.words.now)) c.above-next.ensures
-          ∙ sym (free_above c.args.net.now c.last_guard-next.ensures.net (store_in c.args.net.now.cells c.args.words.now) c.in-Some.guard there c.allows.result c.allows.ensures c.if-not-allows.false)
-          ∙ sym (ap (is_free_of c.args.net.now (store_in c.args.net.now.cells c.args.words.now)) c.in-Some.is)
-          ∙ c.loop-next.invariant.free;
-      there = still_below (length c.args.net.now.guards) c.in-Some.guard c.above-next.result there
-          (subst (IsBelow c.in-Some.guard) (sym c.above-next.ensures) (above_there c.args.net.now c.last_guard-next.ensures.net c.in-Some.guard there));
-    }
+pub allow_path-requires-clause-there : goal.allow_path-requires-clause-there
+allow_path-requires-clause-there c = subst (IsBelow (length c.args.net.now.guards)) (sym c.last_guard.ensures.last) (last_there c.args.net.now c.last_guard.ensures.net c.args.leaf)
 
 pub returns : goal.returns
 returns c = λ l e.
-    sym (ap (is_free_of c.args.net.now (store_in c.args.net.now.cells c.args.words.now)) c.in_default.is)
-    ∙ c.loop-next.invariant.free
+    c.allow_path.ensures ∙ ap (is_free_of c.args.net.now (store_in c.args.net.now.cells c.args.words.now)) c.last_guard.ensures.last
     ∙ runs_free c.args.net.now (store_in c.args.net.now.cells c.args.words.now) c.args.leaf l e

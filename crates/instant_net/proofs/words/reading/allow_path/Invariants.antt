@@ -1,14 +1,12 @@
 use Rattle.std.proofs.Common.{◌≡◌, length}
-use Rattle.std.specs.Prelude.{slice_get}
 use Rattle.instant_net.specs.Nets.{IsBelow}
-use Rattle.instant_net.specs.Readers.{last_of}
 use Rattle.instant_net.specs.Words.{store_in}
 use Rattle.instant_net.proofs.PathWalks.{is_free_of, place}
-use Rattle.instant_net.proofs.words.reading.runs.Given as goal
+use Rattle.instant_net.proofs.words.reading.allow_path.Given as goal
 
 abbrev pub invariant-loop-next : goal.invariant-loop-next
 invariant-loop-next l = record {
-  free : is_free_of l.net (store_in l.net.cells l.words) l.next ≡ is_free_of l.net (store_in l.net.cells l.words) (last_of (slice_get l.net.leaves l.leaf));
+  free : is_free_of l.net (store_in l.net.cells l.words) l.next ≡ is_free_of l.net (store_in l.net.cells l.words) l.fn.last;
   there : IsBelow (length l.net.guards) l.next;
 }
 
