@@ -5,3 +5,5 @@ pub mod StartedLeaves
 pub mod StartedLists
 pub mod LeafCounts
 pub mod NextLists
+pub mod Passing
+pub mod RanLeaves

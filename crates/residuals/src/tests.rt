@@ -2,11 +2,12 @@ ghost use Rattle.std.specs.Prelude.{◌≡◌, ℕ, List, ◌+◌, IfOk, length}
 ghost use Rattle.token_system.specs.Stores.{Valuation};
 ghost use Rattle.agent_core.specs.Closures as closures;
 ghost use Rattle.agent_core.specs.Facts.{IsProgram};
-ghost use Rattle.residuals.specs.RootLists.{AreRootsOf};
+ghost use Rattle.instant_net.specs.Opened.{IsNetOf};
+ghost use Rattle.residuals.specs.RootLists.{listed, AreRootsOf};
 
-use crate::{Roots, first_roots, next_roots};
+use crate::{Roots, first_roots, next_roots, ran};
 use agent_core::{CellDecl, Closure, Constraint, Levels, Name, Node, Program};
-use instant_net::{open_net, open_words};
+use instant_net::{Net, open_net, open_words, tell};
 use std::alloc::Global;
 use std::fmt::Write;
 use std::test::Fail;
@@ -49,6 +50,26 @@ fn flat_levels(alloc: Global, program: &Program) -> Result<Levels, Fail>
     Ok(Levels::make(list))
 }
 
+/// The net of these roots at instant t.
+fn net_at(
+    alloc: Global,
+    program: &Program,
+    levels: &Levels,
+    roots: &Roots,
+    t: u32,
+) -> Result<Net, Fail>
+    requires program { IsProgram program.now }
+    requires levels { length levels.now ≡ length program.now.cells }
+    requires roots { (closed : List Valuation) × (length closed ≡ t) × AreRootsOf program.now (closures.roots program.now closed) roots.now }
+    ensures { IfOk result (IsNetOf program.now levels.now (listed roots.now) t) }
+{
+    let list = roots.list(alloc)?;
+    match open_net(alloc, program, levels, &list, t, 100) {
+        Ok(net) => Ok(net),
+        Err(_) => Err(Fail::from("no net")),
+    }
+}
+
 /// The roots after those of instant t, whose input tells nothing. No ask looks at what is told there.
 fn after(
     alloc: Global,
@@ -62,13 +83,24 @@ fn after(
     requires roots { (closed : List Valuation) × (length closed ≡ t) × AreRootsOf program.now (closures.roots program.now closed) roots.now }
     ensures { IfOk result (λ next. (closed : List Valuation) × (length closed ≡ t + 1) × AreRootsOf program.now (closures.roots program.now closed) next) }
 {
-    let list = roots.list(alloc)?;
-    let net = match open_net(alloc, program, levels, &list, t, 100) {
-        Ok(net) => net,
-        Err(_) => return Err(Fail::from("no net")),
-    };
+    let net = net_at(alloc, program, levels, roots, t)?;
     let words = open_words(alloc, &net, &Store::new(alloc))?;
     Ok(next_roots(alloc, &net, roots, &words)?)
+}
+
+/// How many leaves of the first instant the store runs in which nothing is told, and how many the one after that leaf is told.
+fn ran_before_and_after(alloc: Global, program: &Program, leaf: u32) -> Result<(u64, u64), Fail>
+    requires { IsProgram program.now }
+{
+    let levels = flat_levels(alloc, program)?;
+    let roots = first_roots(alloc)?;
+    let net = net_at(alloc, program, &levels, &roots, 0)?;
+    let mut words = open_words(alloc, &net, &Store::new(alloc))?;
+    let before = ran(&net, &words);
+    if leaf < net.leaves() {
+        tell(&net, &mut words, leaf);
+    }
+    Ok((before, ran(&net, &words)))
 }
 
 /// The roots of this instant, where no input tells anything.
@@ -198,5 +230,31 @@ fn leaves_that_do_not_run_start_nothing(rt: HostRuntime) -> Result<(), Fail> {
     let program = over_signals(rt.alloc(), 2, 2, nodes)?;
     assert_eq!(rt; text_at(rt.alloc(), &program, 1)?.as_str(), " 6");
     assert_eq!(rt; text_at(rt.alloc(), &program, 2)?.as_str(), " 6");
+    Ok(())
+}
+
+/// `signal a, b; a || if a then { b || hence b } || if a else b`: at first `a` and what the else lets run; where `a` is told, `a`
+/// and the two leaves below the then.
+#[test]
+fn leaves_that_run_are_counted(rt: HostRuntime) -> Result<(), Fail> {
+    let mut nodes = Vec::new(rt.alloc());
+    nodes.push(Node::Par { left: 1, right: 2 })?;
+    nodes.push(Node::Tell(on(rt.alloc(), 0)?))?;
+    nodes.push(Node::Par { left: 3, right: 8 })?;
+    nodes.push(Node::Then {
+        ask: on(rt.alloc(), 0)?,
+        body: 4,
+    })?;
+    nodes.push(Node::Par { left: 5, right: 6 })?;
+    nodes.push(Node::Tell(on(rt.alloc(), 1)?))?;
+    nodes.push(Node::Hence { body: 7 })?;
+    nodes.push(Node::Tell(on(rt.alloc(), 1)?))?;
+    nodes.push(Node::Else {
+        ask: on(rt.alloc(), 0)?,
+        body: 9,
+    })?;
+    nodes.push(Node::Tell(on(rt.alloc(), 1)?))?;
+    let program = over_signals(rt.alloc(), 2, 2, nodes)?;
+    assert_eq!(rt; ran_before_and_after(rt.alloc(), &program, 0)?, (2, 3));
     Ok(())
 }
