@@ -1,2 +1,3 @@
 pub mod CoreTexts
 pub mod Beginnings
+pub mod GoodNames

@@ -4,8 +4,10 @@
 mod agents;
 mod cells;
 mod constraints;
+mod laws;
 mod printing;
 #[cfg(test)]
 mod tests;
 
+pub use laws::length_law;
 pub use printing::print_core;

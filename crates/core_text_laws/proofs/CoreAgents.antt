@@ -22,8 +22,8 @@ use Rattle.agent_core.specs.Agents.{Ask, agent_at}
 use Rattle.agent_core.specs.Programs.{CoreProgram}
 use Rattle.agent_core.specs.Facts.{IsProgram, IsInScope, AreInScope}
 use Rattle.core_text.specs.CoreTexts.{decl_text, decl_lines, name_at, decl_at, ask_text, as_unit, agent_text, core_text}
-use Rattle.core_text_laws.specs.GoodNames.{IsCoreName, HasGoodNames}
-use Rattle.derived_forms.proofs.LocalCells.{news}
+use Rattle.core_text.specs.GoodNames.{IsCoreName, HasGoodNames}
+use Rattle.core_reader.proofs.LocalCells.{news}
 use Rattle.core_text_laws.proofs.Sitting.{Sits, sits_then, sits_else, sits_hence, sits_next, sits_left, sits_right, sits_cell, sits_new, root_sits}
 use Rattle.core_text_laws.proofs.CorePhrases.{token_phrase, ask_phrase, as_unit_phrase, local_phrase, local_at, agent_phrase, decl_phrase, decls_phrase, program_phrase}
 use Rattle.core_text_laws.proofs.CoreCells.{found_at, both, taken}

@@ -15,8 +15,8 @@ use Rattle.agent_core.specs.Agents.{Agent, Skip, Tell, Then, Else, Par, New, Hen
 use Rattle.agent_core.specs.Programs.{CoreProgram}
 use Rattle.agent_core.specs.Facts.{IsProgram, count_up}
 use Rattle.tdcc_reader.specs.Surfaces.{Declared, declared, signal, number, cell_view, unit_cells, agent_cells, declared_cells, program_cells}
-use Rattle.core_text_laws.specs.GoodNames.{HasGoodNames}
-use Rattle.derived_forms.proofs.LocalCells.{news}
+use Rattle.core_text.specs.GoodNames.{HasGoodNames}
+use Rattle.core_reader.proofs.LocalCells.{news}
 use Rattle.core_text_laws.proofs.Sitting.{Sits, sits_then, sits_else, sits_hence, sits_next, sits_left, sits_right, sits_cell, sits_new, root_sits, root_news}
 use Rattle.core_text_laws.proofs.CorePhrases.{as_unit_phrase, local_phrase, local_at, agent_phrase, decl_phrase, decls_phrase, program_phrase}
 

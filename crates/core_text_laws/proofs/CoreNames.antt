@@ -20,8 +20,8 @@ use Rattle.tdcc_reader.specs.Limits.{first}
 use Rattle.tdcc_reader.specs.Widths.{token_width, constraint_width, unit_width}
 use Rattle.tdcc_reader.specs.Scope.{Known, known, kind_of, unknown_fault, signal_fault, number_fault, double_fault, domain_fault, declared_fault, token_fault, constraint_fault, unit_fault, agent_fault, fault_from, program_fault}
 use Rattle.core_text.specs.CoreTexts.{name_at}
-use Rattle.core_text_laws.specs.GoodNames.{IsVisible, HasGoodNames}
-use Rattle.derived_forms.proofs.LocalCells.{news}
+use Rattle.core_text.specs.GoodNames.{IsVisible, HasGoodNames}
+use Rattle.core_reader.proofs.LocalCells.{news}
 use Rattle.core_text_laws.proofs.Sitting.{Sits, sits_then, sits_else, sits_hence, sits_next, sits_left, sits_right, sits_cell, sits_new, root_sits}
 use Rattle.core_text_laws.proofs.CorePhrases.{token_phrase, ask_phrase, as_unit_phrase, local_phrase, local_at, agent_phrase, decl_phrase, decls_phrase, program_phrase}
 use Rattle.core_text_laws.proofs.CoreCells.{found_at, taken, both}

@@ -16,10 +16,10 @@ use Rattle.agent_core.specs.Programs.{CoreProgram}
 use Rattle.agent_core.specs.Facts.{IsProgram, AreInScope, IsConstraint}
 use Rattle.tdcc_reader.specs.Trees as tree
 use Rattle.tdcc_reader.specs.Surfaces.{Placed, placed, cell_of, ask_of, token_ask, unit_tree, agent_tree, unit_cells, tree_from, program_tree}
-use Rattle.derived_forms.specs.Trees.{tree_of}
+use Rattle.core_reader.specs.Trees.{tree_of}
 use Rattle.core_text.specs.CoreTexts.{name_at}
-use Rattle.core_text_laws.specs.GoodNames.{IsVisible, HasGoodNames}
-use Rattle.derived_forms.proofs.LocalCells.{news}
+use Rattle.core_text.specs.GoodNames.{IsVisible, HasGoodNames}
+use Rattle.core_reader.proofs.LocalCells.{news}
 use Rattle.core_text_laws.proofs.Sitting.{Sits, sits_then, sits_else, sits_hence, sits_next, sits_left, sits_right, sits_cell, sits_new, root_sits}
 use Rattle.core_text_laws.proofs.CorePhrases.{token_phrase, ask_phrase, as_unit_phrase, local_phrase, local_at, agent_phrase, decl_phrase, decls_phrase, program_phrase}
 use Rattle.core_text_laws.proofs.CoreCells.{found_at, taken, cells_many}

@@ -21,7 +21,7 @@ use Rattle.token_system.specs.declared.cell.Token.{Token}
 use Rattle.token_system.specs.declared.cell.Token.TheVariants.{On, Off, Clash, AtLeast, AtMost}
 use Rattle.token_system.specs.Tokens.{fits_kind}
 use Rattle.token_system.specs.Texts.{text_of}
-use Rattle.core_text_laws.specs.GoodNames.{IsCoreName}
+use Rattle.core_text.specs.GoodNames.{IsCoreName}
 use Rattle.core_text_laws.proofs.CorePhrases.{token_phrase}
 use Rattle.core_text_laws.proofs.Written.{append_three, Written, more_written, same_written}
 

@@ -1,5 +1,7 @@
 pub mod Sitting
 pub mod CorePhrases
+pub mod CoreLimits
+pub mod NoLater
 pub mod CoreCells
 pub mod CoreTrees
 pub mod CoreNames
@@ -7,3 +9,4 @@ pub mod Written
 pub mod CoreWords
 pub mod CoreAgents
 pub mod Spellings
+pub mod ReadBack

@@ -6,8 +6,8 @@ use Rattle.agent_core.specs.Programs.{CoreProgram}
 use Rattle.agent_core.specs.Listing.{listing}
 use Rattle.agent_core.specs.Facts.{Scoped, IsProgram, cell_of, count_up}
 use Rattle.agent_core.proofs.ListingTrees.{root_tree}
-use Rattle.derived_forms.proofs.LocalCells.{news, news_listed}
-use Rattle.core_text_laws.specs.GoodNames.{AreFresh, HasGoodNames}
+use Rattle.core_reader.proofs.LocalCells.{news, news_listed}
+use Rattle.core_text.specs.GoodNames.{AreFresh, HasGoodNames}
 
 -- these are numbers in order from n on
 abbrev pub Counted : ℕ → List ℕ → Type 0

@@ -20,11 +20,11 @@ use Rattle.agent_core.proofs.ListingTrees.{root_tree}
 use Rattle.tdcc_reader.specs.Trees as tree
 use Rattle.tdcc_reader.specs.Sayings.{terms_of}
 use Rattle.tdcc_reader.specs.Surfaces.{program_cells, declared_cells, program_tree}
-use Rattle.derived_forms.specs.Trees.{tree_of}
-use Rattle.derived_forms.proofs.CellViews.{same_cells}
-use Rattle.derived_forms.proofs.NodeForms.{forms_listed, same_nodes}
+use Rattle.core_reader.specs.Trees.{tree_of}
+use Rattle.surface_laws.proofs.CellViews.{same_cells}
+use Rattle.core_reader.proofs.NodeForms.{forms_listed, same_nodes}
 use Rattle.core_text.specs.CoreTexts.{core_text}
-use Rattle.core_text_laws.specs.GoodNames.{HasGoodNames}
+use Rattle.core_text.specs.GoodNames.{HasGoodNames}
 use Rattle.core_text_laws.specs.Spelled.{IsSpelled}
 use Rattle.core_text_laws.proofs.CorePhrases.{as_unit_phrase, local_phrase, local_at, agent_phrase, decl_phrase, decls_phrase, program_phrase}
 use Rattle.core_text_laws.proofs.CoreCells.{program_declared, program_seen}
@@ -69,6 +69,10 @@ decls_are_core : (ds : List CellDecl) (q : g.Program) → is_core (decls_phrase 
 decls_are_core [] q = refl
 decls_are_core (d ∷ ds) q = decl_is_core d.cell.kind d (decls_phrase ds q) ∙ decls_are_core ds q
 
+-- The phrase of a program is of the core language.
+pub phrase_is_core : (p : CoreProgram) → is_core (program_phrase p) ≡ true
+phrase_is_core p = decls_are_core (take p.declared p.cells) (g.Runs (agent_phrase p.cells (agent_at p.nodes 0))) ∙ agent_is_core p.cells (agent_at p.nodes 0)
+
 -- The core text of a program with good names is that program.
 pub spelled : (p : CoreProgram) → IsProgram p → HasGoodNames p → IsSpelled (core_text p) p
 spelled p is good =
@@ -79,7 +83,7 @@ spelled p is good =
       short = lexed.short;
       phrase = program_phrase p;
       spells = record {
-        allowed = decls_are_core (take p.declared p.cells) (g.Runs (agent_phrase p.cells (agent_at p.nodes 0))) ∙ agent_is_core p.cells (agent_at p.nodes 0);
+        allowed = phrase_is_core p;
         spelled = lexed.terms_are;
       };
       named = program_clean p good is;
@@ -91,7 +95,7 @@ spelled p is good =
 -- ONE PROGRAM
 
 -- the nodes of a program are those of its agent
-listed : (p : CoreProgram) → IsProgram p → p.nodes ≡ listing 0 (agent_at p.nodes 0)
+pub listed : (p : CoreProgram) → IsProgram p → p.nodes ≡ listing 0 (agent_at p.nodes 0)
 listed p is = is.tree.1 ∙ ap (listing 0) (sym (root_tree p.nodes is.tree))
 
 -- programs of which the same trees are read have the same nodes

@@ -11,7 +11,7 @@ use Rattle.agent_core.specs.Programs.{CoreProgram}
 use Rattle.tdcc_reader.specs.Sayings.{terms_of, too_long}
 use Rattle.tdcc_reader.specs.Scope.{program_fault}
 use Rattle.tdcc_reader.specs.Surfaces.{cell_view, declared_cells, program_cells, program_tree}
-use Rattle.derived_forms.specs.Trees.{tree_of}
+use Rattle.core_reader.specs.Trees.{tree_of}
 
 -- The lexemes of the text are not too long, and say a program phrase of the core language. Its names have no fault, and it
 -- has the cells of the program and its agent.

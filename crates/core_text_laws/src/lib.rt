@@ -3,4 +3,4 @@
 
 mod laws;
 
-pub use laws::{reading_law, spelling_law};
+pub use laws::{reading_back_law, reading_law, spelling_law};

@@ -1,14 +1,17 @@
 -- In a program within the limits each ask has 1 to 16 tokens.
-use Rattle.std.proofs.Common.{◌≡◌, ℕ, ◌+◌, ◌*◌, ◌≤◌, List, [], ◌∷◌, ◌++◌, length, Bool, true, false, Option, None, Some, refl, arith, length-append}
+use Rattle.std.proofs.Common.{◌≡◌, ℕ, ◌+◌, ◌*◌, ◌≤◌, List, [], ◌∷◌, ◌++◌, length, Bool, true, false, Option, None, Some, refl, arith, length-append, lit≤}
 use Rattle.std.specs.Prelude.{All, nat_lt, if◌then◌else◌}
 use Rattle.std.proofs.lemmas.Bool.{ltb-false}
 use Rattle.std.proofs.lemmas.List.Elements.{All-cons, All-append, All-nil}
 use Rattle.program_grammar.specs.Phrases.{Token, Asserts, Denies, Clashes, AtLeast, AtMost, Exactly, Constraint, One, Both, Unit', Nothing, Tell, Braces, IfThen, IfElse, LocalSignal, LocalInt, Henceforth, AtNext, Ever, Whenever, Watch, Timed, Agent, Only, Par, Program, Runs, Signals, Ints}
+use Rattle.tdcc_reader.specs.declared.dialect.Dialect.{Dialect}
+use Rattle.tdcc_reader.specs.declared.dialect.Dialect.TheVariants as dialects
 use Rattle.tdcc_reader.specs.declared.limits.Limit.{Limit}
 use Rattle.tdcc_reader.specs.declared.limits.Limit.TheVariants.{TooManyTokens}
 use Rattle.tdcc_reader.specs.declared.draft.DraftKind.TheVariants as kind
+use Rattle.tdcc_reader.specs.Dialects.{max_tokens, equation_count, token_count}
 use Rattle.tdcc_reader.specs.Widths.{token_width, constraint_width, unit_width, agent_width, names_width, items_width}
-use Rattle.tdcc_reader.specs.Limits.{first, token_limit, constraint_limit, deep_limit, unit_limit, agent_limit, limit_from, program_limit}
+use Rattle.tdcc_reader.specs.Limits.{first, many_limit, constraint_limit, deep_limit, unit_limit, agent_limit, limit_from, program_limit}
 use Rattle.tdcc_reader.specs.Surfaces.{Placed, placed, token_ask, ask_of, unit_cells, unit_tree, agent_tree, names_cells, names_scope, items_cells, items_scope, tree_from, program_tree}
 use Rattle.tdcc_reader.specs.Drafts.{entry, drafts, IsAsk, IsWhole}
 
@@ -25,79 +28,102 @@ not_found : (b : Bool) (l : Limit) → (if b then Some l else None) ≡ None →
 not_found true l e = cc
 not_found false l e = refl
 
-token_kept : (n at : ℕ) → token_limit n at ≡ None → n + 1 ≤ 8
-token_kept n at e = ltb-false 8 (n + 1) (not_found (nat_lt 8 (n + 1)) (TooManyTokens at) e)
+-- so many tokens are no more than a constraint may have
+many_kept : (dialect : Dialect) (n at : ℕ) → many_limit dialect n at ≡ None → n ≤ max_tokens dialect
+many_kept dialect n at e = ltb-false (max_tokens dialect) n (not_found (nat_lt (max_tokens dialect) n) (TooManyTokens at) e)
 
-token_some : (s : List Placed) (t : Token) → (1 ≤ length (token_ask s t)) × (length (token_ask s t) ≤ 2)
-token_some s (Asserts x) = (omega arith, omega arith)
-token_some s (Denies x) = (omega arith, omega arith)
-token_some s (Clashes x) = (omega arith, omega arith)
-token_some s (AtLeast x n) = (omega arith, omega arith)
-token_some s (AtMost x n) = (omega arith, omega arith)
-token_some s (Exactly x n) = (omega arith, omega arith)
+-- how many tokens of its form a constraint has at most, where it has so many
+abbrev forms_most : Dialect → ℕ → ℕ
+forms_most dialects.Program n = 2 * n
+forms_most dialects.Core n = n
 
-constraint_some : (s : List Placed) (c : Constraint) (n at : ℕ) → constraint_limit c n at ≡ None → (1 ≤ length (ask_of s c)) × (length (ask_of s c) + 2 * n ≤ 16)
-constraint_some s (One t) n at e = let k = token_kept n at e in let (x, y) = token_some s t in (x, omega arith)
-constraint_some s (Both t c) n at e =
-    let k = token_kept n at (none_left (token_limit n at) (constraint_limit c (n + 1) (at + token_width t + 1)) e) in
-    let (x, y) = token_some s t in
-    let (v, w) = constraint_some s c (n + 1) (at + token_width t + 1) (none_right (token_limit n at) (constraint_limit c (n + 1) (at + token_width t + 1)) e) in
+most_forms : (dialect : Dialect) (n : ℕ) → n ≤ max_tokens dialect → forms_most dialect n ≤ 16
+most_forms dialects.Program n h = omega arith
+most_forms dialects.Core n h = h
+
+-- a token has one or two tokens of its form, and no more than it counts for
+abbrev IsCounted : Dialect → ℕ → ℕ → Type 0
+IsCounted dialect k count = (1 ≤ k) × ((n : ℕ) → k + forms_most dialect n ≤ forms_most dialect (n + count))
+
+one_counted : (dialect : Dialect) → IsCounted dialect 1 1
+one_counted dialects.Program = (lit≤ tt, λ n. omega arith)
+one_counted dialects.Core = (lit≤ tt, λ n. omega arith)
+
+two_counted : (dialect : Dialect) → IsCounted dialect 2 (equation_count dialect)
+two_counted dialects.Program = (lit≤ tt, λ n. omega arith)
+two_counted dialects.Core = (lit≤ tt, λ n. omega arith)
+
+token_counted : (dialect : Dialect) (s : List Placed) (t : Token) → IsCounted dialect (length (token_ask s t)) (token_count dialect t)
+token_counted dialect s (Asserts x) = one_counted dialect
+token_counted dialect s (Denies x) = one_counted dialect
+token_counted dialect s (Clashes x) = one_counted dialect
+token_counted dialect s (AtLeast x n) = one_counted dialect
+token_counted dialect s (AtMost x n) = one_counted dialect
+token_counted dialect s (Exactly x n) = two_counted dialect
+
+constraint_some : (dialect : Dialect) (s : List Placed) (c : Constraint) (n at : ℕ) → constraint_limit dialect c n at ≡ None → (1 ≤ length (ask_of s c)) × (length (ask_of s c) + forms_most dialect n ≤ 16)
+constraint_some dialect s (One t) n at e =
+    let m = most_forms dialect (n + token_count dialect t) (many_kept dialect (n + token_count dialect t) at e) in
+    let (x, y) = token_counted dialect s t in let z = y n in (x, omega arith)
+constraint_some dialect s (Both t c) n at e =
+    let (x, y) = token_counted dialect s t in let z = y n in
+    let (v, w) = constraint_some dialect s c (n + token_count dialect t) (at + token_width t + 1) (none_right (many_limit dialect (n + token_count dialect t) at) (constraint_limit dialect c (n + token_count dialect t) (at + token_width t + 1)) e) in
     let l = length-append (token_ask s t) (ask_of s c) in (omega arith, omega arith)
 
-pub ask_kept : (s : List Placed) (c : Constraint) (at : ℕ) → constraint_limit c 0 at ≡ None → IsAsk (ask_of s c)
-ask_kept s c at e = let (x, y) = constraint_some s c 0 at e in (x, omega arith)
+pub ask_kept : (dialect : Dialect) (s : List Placed) (c : Constraint) (at : ℕ) → constraint_limit dialect c 0 at ≡ None → IsAsk (ask_of s c)
+ask_kept dialect s c at e = let (x, y) = constraint_some dialect s c 0 at e in (x, omega arith)
 
-abbrev UnitWhole : Unit' → Type 0
-UnitWhole u = (s : List Placed) (m d at : ℕ) → unit_limit u d at ≡ None → All IsWhole (drafts (unit_tree u s m))
+abbrev UnitWhole : Dialect → Unit' → Type 0
+UnitWhole dialect u = (s : List Placed) (m d at : ℕ) → unit_limit dialect u d at ≡ None → All IsWhole (drafts (unit_tree u s m))
 
 -- behind the limit on depth
-pub inner : (d at : ℕ) (g : Option Limit) → first (deep_limit d at) g ≡ None → g ≡ None
-inner d at g e = none_right (deep_limit d at) g e
+pub inner : (dialect : Dialect) (d at : ℕ) (g : Option Limit) → first (deep_limit dialect d at) g ≡ None → g ≡ None
+inner dialect d at g e = none_right (deep_limit dialect d at) g e
 
 mutual
-  unit_whole : (u : Unit') → UnitWhole u
-  unit_whole Nothing s m d at e = All-cons IsWhole (entry kind.Skip []) [] tt (All-nil IsWhole)
-  unit_whole (Tell c) s m d at e = All-cons IsWhole (entry kind.Tell (ask_of s c)) [] (ask_kept s c at (inner d at (constraint_limit c 0 at) e)) (All-nil IsWhole)
-  unit_whole (Braces a) s m d at e = agent_whole a s m (d + 1) (at + 1) (inner d at (agent_limit a (d + 1) (at + 1)) e)
-  unit_whole (IfThen c u) s m d at e =
-      let i = inner d at (first (constraint_limit c 0 (at + 1)) (unit_limit u (d + 1) (at + 1 + constraint_width c + 1))) e in
-      All-cons IsWhole (entry kind.Then (ask_of s c)) (drafts (unit_tree u s m)) (ask_kept s c (at + 1) (none_left (constraint_limit c 0 (at + 1)) (unit_limit u (d + 1) (at + 1 + constraint_width c + 1)) i))
-      (unit_whole u s m (d + 1) (at + 1 + constraint_width c + 1) (none_right (constraint_limit c 0 (at + 1)) (unit_limit u (d + 1) (at + 1 + constraint_width c + 1)) i))
-  unit_whole (IfElse c u) s m d at e =
-      let i = inner d at (first (constraint_limit c 0 (at + 1)) (unit_limit u (d + 1) (at + 1 + constraint_width c + 1))) e in
-      All-cons IsWhole (entry kind.Else (ask_of s c)) (drafts (unit_tree u s m)) (ask_kept s c (at + 1) (none_left (constraint_limit c 0 (at + 1)) (unit_limit u (d + 1) (at + 1 + constraint_width c + 1)) i))
-      (unit_whole u s m (d + 1) (at + 1 + constraint_width c + 1) (none_right (constraint_limit c 0 (at + 1)) (unit_limit u (d + 1) (at + 1 + constraint_width c + 1)) i))
-  unit_whole (LocalSignal x u) s m d at e = All-cons IsWhole (entry (kind.New m) []) (drafts (unit_tree u (placed x m ∷ s) (m + 1))) tt (unit_whole u (placed x m ∷ s) (m + 1) (d + 1) (at + 4) (inner d at (unit_limit u (d + 1) (at + 4)) e))
-  unit_whole (LocalInt x l h u) s m d at e = All-cons IsWhole (entry (kind.New m) []) (drafts (unit_tree u (placed x m ∷ s) (m + 1))) tt (unit_whole u (placed x m ∷ s) (m + 1) (d + 1) (at + 8) (inner d at (unit_limit u (d + 1) (at + 8)) e))
-  unit_whole (Henceforth u) s m d at e = All-cons IsWhole (entry kind.Hence []) (drafts (unit_tree u s m)) tt (unit_whole u s m (d + 1) (at + 1) (inner d at (unit_limit u (d + 1) (at + 1)) e))
-  unit_whole (AtNext u) s m d at e = All-cons IsWhole (entry kind.Next []) (drafts (unit_tree u s m)) tt (unit_whole u s m (d + 1) (at + 1) (inner d at (unit_limit u (d + 1) (at + 1)) e))
-  unit_whole (Ever u) s m d at e = All-cons IsWhole (entry kind.Always []) (drafts (unit_tree u s m)) tt (unit_whole u s m (d + 1) (at + 1) (inner d at (unit_limit u (d + 1) (at + 1)) e))
-  unit_whole (Whenever c u) s m d at e =
-      let i = inner d at (first (constraint_limit c 0 (at + 1)) (unit_limit u (d + 1) (at + 1 + constraint_width c + 1))) e in
-      All-cons IsWhole (entry kind.When (ask_of s c)) (drafts (unit_tree u s m)) (ask_kept s c (at + 1) (none_left (constraint_limit c 0 (at + 1)) (unit_limit u (d + 1) (at + 1 + constraint_width c + 1)) i))
-      (unit_whole u s m (d + 1) (at + 1 + constraint_width c + 1) (none_right (constraint_limit c 0 (at + 1)) (unit_limit u (d + 1) (at + 1 + constraint_width c + 1)) i))
-  unit_whole (Watch a c) s m d at e =
-      let i = inner d at (first (agent_limit a (d + 1) (at + 1)) (constraint_limit c 0 (at + 1 + agent_width a + 1))) e in
-      All-cons IsWhole (entry kind.Watch (ask_of s c)) (drafts (agent_tree a s m)) (ask_kept s c (at + 1 + agent_width a + 1) (none_right (agent_limit a (d + 1) (at + 1)) (constraint_limit c 0 (at + 1 + agent_width a + 1)) i))
-      (agent_whole a s m (d + 1) (at + 1) (none_left (agent_limit a (d + 1) (at + 1)) (constraint_limit c 0 (at + 1 + agent_width a + 1)) i))
-  unit_whole (Timed a c) s m d at e =
-      let i = inner d at (first (agent_limit a (d + 1) (at + 1)) (constraint_limit c 0 (at + 1 + agent_width a + 1))) e in
-      All-cons IsWhole (entry kind.Time (ask_of s c)) (drafts (agent_tree a s m)) (ask_kept s c (at + 1 + agent_width a + 1) (none_right (agent_limit a (d + 1) (at + 1)) (constraint_limit c 0 (at + 1 + agent_width a + 1)) i))
-      (agent_whole a s m (d + 1) (at + 1) (none_left (agent_limit a (d + 1) (at + 1)) (constraint_limit c 0 (at + 1 + agent_width a + 1)) i))
+  unit_whole : (dialect : Dialect) (u : Unit') → UnitWhole dialect u
+  unit_whole dialect Nothing s m d at e = All-cons IsWhole (entry kind.Skip []) [] tt (All-nil IsWhole)
+  unit_whole dialect (Tell c) s m d at e = All-cons IsWhole (entry kind.Tell (ask_of s c)) [] (ask_kept dialect s c at (inner dialect d at (constraint_limit dialect c 0 at) e)) (All-nil IsWhole)
+  unit_whole dialect (Braces a) s m d at e = agent_whole dialect a s m (d + 1) (at + 1) (inner dialect d at (agent_limit dialect a (d + 1) (at + 1)) e)
+  unit_whole dialect (IfThen c u) s m d at e =
+      let i = inner dialect d at (first (constraint_limit dialect c 0 (at + 1)) (unit_limit dialect u (d + 1) (at + 1 + constraint_width c + 1))) e in
+      All-cons IsWhole (entry kind.Then (ask_of s c)) (drafts (unit_tree u s m)) (ask_kept dialect s c (at + 1) (none_left (constraint_limit dialect c 0 (at + 1)) (unit_limit dialect u (d + 1) (at + 1 + constraint_width c + 1)) i))
+      (unit_whole dialect u s m (d + 1) (at + 1 + constraint_width c + 1) (none_right (constraint_limit dialect c 0 (at + 1)) (unit_limit dialect u (d + 1) (at + 1 + constraint_width c + 1)) i))
+  unit_whole dialect (IfElse c u) s m d at e =
+      let i = inner dialect d at (first (constraint_limit dialect c 0 (at + 1)) (unit_limit dialect u (d + 1) (at + 1 + constraint_width c + 1))) e in
+      All-cons IsWhole (entry kind.Else (ask_of s c)) (drafts (unit_tree u s m)) (ask_kept dialect s c (at + 1) (none_left (constraint_limit dialect c 0 (at + 1)) (unit_limit dialect u (d + 1) (at + 1 + constraint_width c + 1)) i))
+      (unit_whole dialect u s m (d + 1) (at + 1 + constraint_width c + 1) (none_right (constraint_limit dialect c 0 (at + 1)) (unit_limit dialect u (d + 1) (at + 1 + constraint_width c + 1)) i))
+  unit_whole dialect (LocalSignal x u) s m d at e = All-cons IsWhole (entry (kind.New m) []) (drafts (unit_tree u (placed x m ∷ s) (m + 1))) tt (unit_whole dialect u (placed x m ∷ s) (m + 1) (d + 1) (at + 4) (inner dialect d at (unit_limit dialect u (d + 1) (at + 4)) e))
+  unit_whole dialect (LocalInt x l h u) s m d at e = All-cons IsWhole (entry (kind.New m) []) (drafts (unit_tree u (placed x m ∷ s) (m + 1))) tt (unit_whole dialect u (placed x m ∷ s) (m + 1) (d + 1) (at + 8) (inner dialect d at (unit_limit dialect u (d + 1) (at + 8)) e))
+  unit_whole dialect (Henceforth u) s m d at e = All-cons IsWhole (entry kind.Hence []) (drafts (unit_tree u s m)) tt (unit_whole dialect u s m (d + 1) (at + 1) (inner dialect d at (unit_limit dialect u (d + 1) (at + 1)) e))
+  unit_whole dialect (AtNext u) s m d at e = All-cons IsWhole (entry kind.Next []) (drafts (unit_tree u s m)) tt (unit_whole dialect u s m (d + 1) (at + 1) (inner dialect d at (unit_limit dialect u (d + 1) (at + 1)) e))
+  unit_whole dialect (Ever u) s m d at e = All-cons IsWhole (entry kind.Always []) (drafts (unit_tree u s m)) tt (unit_whole dialect u s m (d + 1) (at + 1) (inner dialect d at (unit_limit dialect u (d + 1) (at + 1)) e))
+  unit_whole dialect (Whenever c u) s m d at e =
+      let i = inner dialect d at (first (constraint_limit dialect c 0 (at + 1)) (unit_limit dialect u (d + 1) (at + 1 + constraint_width c + 1))) e in
+      All-cons IsWhole (entry kind.When (ask_of s c)) (drafts (unit_tree u s m)) (ask_kept dialect s c (at + 1) (none_left (constraint_limit dialect c 0 (at + 1)) (unit_limit dialect u (d + 1) (at + 1 + constraint_width c + 1)) i))
+      (unit_whole dialect u s m (d + 1) (at + 1 + constraint_width c + 1) (none_right (constraint_limit dialect c 0 (at + 1)) (unit_limit dialect u (d + 1) (at + 1 + constraint_width c + 1)) i))
+  unit_whole dialect (Watch a c) s m d at e =
+      let i = inner dialect d at (first (agent_limit dialect a (d + 1) (at + 1)) (constraint_limit dialect c 0 (at + 1 + agent_width a + 1))) e in
+      All-cons IsWhole (entry kind.Watch (ask_of s c)) (drafts (agent_tree a s m)) (ask_kept dialect s c (at + 1 + agent_width a + 1) (none_right (agent_limit dialect a (d + 1) (at + 1)) (constraint_limit dialect c 0 (at + 1 + agent_width a + 1)) i))
+      (agent_whole dialect a s m (d + 1) (at + 1) (none_left (agent_limit dialect a (d + 1) (at + 1)) (constraint_limit dialect c 0 (at + 1 + agent_width a + 1)) i))
+  unit_whole dialect (Timed a c) s m d at e =
+      let i = inner dialect d at (first (agent_limit dialect a (d + 1) (at + 1)) (constraint_limit dialect c 0 (at + 1 + agent_width a + 1))) e in
+      All-cons IsWhole (entry kind.Time (ask_of s c)) (drafts (agent_tree a s m)) (ask_kept dialect s c (at + 1 + agent_width a + 1) (none_right (agent_limit dialect a (d + 1) (at + 1)) (constraint_limit dialect c 0 (at + 1 + agent_width a + 1)) i))
+      (agent_whole dialect a s m (d + 1) (at + 1) (none_left (agent_limit dialect a (d + 1) (at + 1)) (constraint_limit dialect c 0 (at + 1 + agent_width a + 1)) i))
 
-  agent_whole : (a : Agent) (s : List Placed) (m d at : ℕ) → agent_limit a d at ≡ None → All IsWhole (drafts (agent_tree a s m))
-  agent_whole (Only u) s m d at e = unit_whole u s m d at e
-  agent_whole (Par u a) s m d at e =
+  agent_whole : (dialect : Dialect) (a : Agent) (s : List Placed) (m d at : ℕ) → agent_limit dialect a d at ≡ None → All IsWhole (drafts (agent_tree a s m))
+  agent_whole dialect (Only u) s m d at e = unit_whole dialect u s m d at e
+  agent_whole dialect (Par u a) s m d at e =
       All-cons IsWhole (entry (kind.Par (1 + length (drafts (unit_tree u s m)))) []) (drafts (unit_tree u s m) ++ drafts (agent_tree a s (m + length (unit_cells u)))) tt
       (All-append IsWhole (drafts (unit_tree u s m)) (drafts (agent_tree a s (m + length (unit_cells u))))
-      (unit_whole u s m d at (none_left (unit_limit u d at) (agent_limit a d (at + unit_width u + 1)) e))
-      (agent_whole a s (m + length (unit_cells u)) d (at + unit_width u + 1) (none_right (unit_limit u d at) (agent_limit a d (at + unit_width u + 1)) e)))
+      (unit_whole dialect u s m d at (none_left (unit_limit dialect u d at) (agent_limit dialect a d (at + unit_width u + 1)) e))
+      (agent_whole dialect a s (m + length (unit_cells u)) d (at + unit_width u + 1) (none_right (unit_limit dialect u d at) (agent_limit dialect a d (at + unit_width u + 1)) e)))
 
-whole_from : (p : Program) (s : List Placed) (m at : ℕ) → limit_from p at ≡ None → All IsWhole (drafts (tree_from p s m))
-whole_from (Runs a) s m at e = agent_whole a s m 0 at e
-whole_from (Signals ns p) s m at e = whole_from p (names_scope ns s m) (m + length (names_cells ns)) (at + 1 + names_width ns) e
-whole_from (Ints is p) s m at e = whole_from p (items_scope is s m) (m + length (items_cells is)) (at + 1 + items_width is) e
+whole_from : (dialect : Dialect) (p : Program) (s : List Placed) (m at : ℕ) → limit_from dialect p at ≡ None → All IsWhole (drafts (tree_from p s m))
+whole_from dialect (Runs a) s m at e = agent_whole dialect a s m 0 at e
+whole_from dialect (Signals ns p) s m at e = whole_from dialect p (names_scope ns s m) (m + length (names_cells ns)) (at + 1 + names_width ns) e
+whole_from dialect (Ints is p) s m at e = whole_from dialect p (items_scope is s m) (m + length (items_cells is)) (at + 1 + items_width is) e
 
 -- The drafts of a program within the limits have such asks.
-pub program_whole : (p : Program) → program_limit p ≡ None → All IsWhole (drafts (program_tree p))
-program_whole p e = whole_from p [] 0 0 e
+pub program_whole : (dialect : Dialect) (p : Program) → program_limit dialect p ≡ None → All IsWhole (drafts (program_tree p))
+program_whole dialect p e = whole_from dialect p [] 0 0 e

@@ -2,6 +2,7 @@
 use Rattle.std.specs.Prelude.{◌≡◌, ◌≤◌, ℕ, List, [], length, None}
 use Rattle.program_grammar.specs.Phrases.{Program}
 use Rattle.program_grammar.specs.Spelling.{program}
+use Rattle.tdcc_reader.specs.declared.dialect.Dialect.{Dialect}
 use Rattle.tdcc_reader.specs.Limits.{program_limit}
 use Rattle.tdcc_reader.specs.Scope.{program_fault}
 use Rattle.tdcc_reader.specs.Refusals.{Accepts}
@@ -15,14 +16,14 @@ pub record IsBuilt (p : Program) (b : Built) : Type 0 where
   pub declared : b.declared ≡ length (declared_cells p)
 
 -- the program keeps the limits, its names have no fault, it declares few cells, and this is built of it
-pub record IsChecked (p : Program) (b : Built) : Type 0 where
-  pub within : program_limit p ≡ None
+pub record IsChecked (dialect : Dialect) (p : Program) (b : Built) : Type 0 where
+  pub within : program_limit dialect p ≡ None
   pub named : program_fault p ≡ None
   pub declared : length (declared_cells p) ≤ 256
   pub built : IsBuilt p b
 
 -- the text is accepted as this program, of which this is built
-pub record IsReady (text : List ℕ) (p : Program) (b : Built) : Type 0 where
-  pub accepts : Accepts text p
-  pub few : length (program p []) ≤ 65536
+pub record IsReady (dialect : Dialect) (text : List ℕ) (p : Program) (b : Built) : Type 0 where
+  pub accepts : Accepts dialect text p
+  pub few : length (program p []) ≤ 4194304
   pub built : IsBuilt p b

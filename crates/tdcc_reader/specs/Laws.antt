@@ -1,14 +1,15 @@
 -- What is proved of refusals. This project's own.
 use Rattle.std.specs.Prelude.{◌≡◌, ◌≢◌, ℕ, List}
 use Rattle.program_grammar.specs.Phrases.{Program}
+use Rattle.tdcc_reader.specs.declared.dialect.Dialect.{Dialect}
 use Rattle.tdcc_reader.specs.declared.fault.ReadFault.{ReadFault}
 use Rattle.tdcc_reader.specs.declared.fault.ReadFault.TheVariants.{Memory}
 use Rattle.tdcc_reader.specs.Refusals.{Accepts, Refuses}
 
 -- want of memory aside, the text is refused for one reason, at one place
-abbrev pub HasOneRefusal : List ℕ → Type 0
-HasOneRefusal text = (f g : ReadFault) → f ≢ Memory → g ≢ Memory → Refuses text f → Refuses text g → f ≡ g
+abbrev pub HasOneRefusal : Dialect → List ℕ → Type 0
+HasOneRefusal dialect text = (f g : ReadFault) → f ≢ Memory → g ≢ Memory → Refuses dialect text f → Refuses dialect text g → f ≡ g
 
 -- want of memory aside, the text is not refused where it is accepted
-abbrev pub AcceptedIsNotRefused : List ℕ → Type 0
-AcceptedIsNotRefused text = (p : Program) (f : ReadFault) → f ≢ Memory → Accepts text p → Refuses text f → ⊥
+abbrev pub AcceptedIsNotRefused : Dialect → List ℕ → Type 0
+AcceptedIsNotRefused dialect text = (p : Program) (f : ReadFault) → f ≢ Memory → Accepts dialect text p → Refuses dialect text f → ⊥

@@ -1,5 +1,6 @@
 pub mod Sayings
 pub mod Stages
+pub mod Dialects
 pub mod Refusals
 pub mod TermViews
 pub mod Widths
@@ -13,5 +14,6 @@ pub mod Surfaces
 pub mod Drafts
 pub mod BuildPass
 pub mod Texts
+pub mod Parts
 pub mod Builds
 pub mod Laws

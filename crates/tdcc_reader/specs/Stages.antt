@@ -1,16 +1,10 @@
 -- The forms that are read today. This project's own.
 use Rattle.std.specs.Prelude.{Bool, true, false}
 use Rattle.program_grammar.specs.declared.words.Word.{Word}
-use Rattle.program_grammar.specs.declared.words.Word.TheVariants.{Set, Always, When, Do, Watching, Time, On, Colon}
+use Rattle.program_grammar.specs.declared.words.Word.TheVariants.{Set, Colon}
 
 -- the word belongs to a form that is not built yet
 abbrev pub is_later : Word → Bool
-is_later Always = true
-is_later When = true
-is_later Do = true
-is_later Watching = true
-is_later Time = true
-is_later On = true
 is_later Set = true
 is_later Colon = true
 is_later _ = false

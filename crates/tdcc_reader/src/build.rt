@@ -1,32 +1,25 @@
 // The drafts of a program, from its steps.
-ghost use Rattle.std.specs.Prelude.{◌≡◌, ◌∷◌, ◌≤◌, ℕ, List, [], IfErr, IfOk, OnOk, length, map, reverse};
+ghost use Rattle.std.specs.Prelude.{◌≡◌, ◌∷◌, ◌≤◌, [], IfOk, OnOk, length, map, reverse};
 ghost use Rattle.program_grammar.specs.Phrases.{Program};
 ghost use Rattle.program_grammar.specs.Programs.{Spells};
 ghost use Rattle.program_grammar.specs.Reading.{AreSteps};
-ghost use Rattle.program_grammar.specs.declared.words.Language.TheVariants as Language;
-ghost use Rattle.token_system.specs.Domain.{is_cell};
-ghost use Rattle.token_system.specs.declared.cell.Kind.TheVariants as Kind;
+ghost use Rattle.program_grammar.specs.declared.words.Language.{Language};
 ghost use Rattle.token_system.specs.declared.cell.Token.TheVariants as Token;
 ghost use Rattle.tdcc_reader.specs.BuildPass.{Subject, asks, asks_waiting, begins, build_pass, built_view, counts_declared, declares, declares_number, declares_signal, ends, leaves_built, leaves_scope, next_cell, next_unit, nothing_built, puts, puts_asked, scoped_view, takes_branch, takes_built, takes_low, takes_name, takes_number, takes_unit, takes_word, waits_for, waits_view, wraps};
-ghost use Rattle.tdcc_reader.specs.Builds.{IsBuilt, IsReady};
+ghost use Rattle.tdcc_reader.specs.Builds.{IsBuilt};
 ghost use Rattle.tdcc_reader.specs.Passes.{over_steps};
-ghost use Rattle.tdcc_reader.specs.Surfaces.{cell_of, cell_view, declared_as, number, program_cells, signal, IsSurfaceOf};
+ghost use Rattle.tdcc_reader.specs.Surfaces.{cell_of, cell_view, declared_as, number, program_cells};
 ghost use Rattle.tdcc_reader.specs.TermViews.{term_view};
 ghost use Rattle.tdcc_reader.specs.declared.draft.DraftKind as DraftKind;
-ghost use Rattle.tdcc_reader.specs.declared.fault.ReadFault as ReadFault;
 
-use crate::draft::{Draft, DraftKind, forms};
-use crate::fault::ReadFault;
-use crate::surface::Surface;
+use crate::cells::{number_cell, signal_cell};
+use crate::draft::{Draft, DraftKind};
 use crate::terms::{Term, term_at};
 use agent_core::{CellDecl, Name};
 use program_grammar::{Part, Step, Word, places_law};
 use std::alloc::{AllocError, Global};
 use std::mem;
-use token_system::{Cell, Kind, Token};
-
-/// The greatest number in a domain; the least one is its negation.
-const MAX_BOUND: i64 = 999_999_999;
+use token_system::{Cell, Token};
 
 /// A name in scope, and the number of its cell.
 #[derive(Clone, Copy, Debug, PartialEq, Eq)]
@@ -59,38 +52,6 @@ pub(crate) struct Builder<'a> {
     pub(crate) cells: Vec<CellDecl>,
     held: Held<'a>,
     pub(crate) declared: usize,
-}
-
-/// The cell of a signal.
-fn signal_cell() -> Cell
-    ensures { (x : List ℕ) → declared_as x result ≡ signal x }
-{
-    Cell {
-        kind: Kind::Signal,
-        lo: 0,
-        hi: 0,
-    }
-}
-
-/// Whether these are the bounds of a domain.
-fn is_domain(lo: i64, hi: i64) -> bool
-    ensures { result ≡ is_cell Kind.Number lo hi }
-{
-    -MAX_BOUND <= lo && lo <= MAX_BOUND && -MAX_BOUND <= hi && hi <= MAX_BOUND && lo <= hi
-}
-
-/// The cell of a number with this domain.
-fn number_cell(lo: i64, hi: i64) -> Cell
-    ensures { (x : List ℕ) → declared_as x result ≡ number x lo hi }
-{
-    if !is_domain(lo, hi) {
-        return signal_cell();
-    }
-    Cell {
-        kind: Kind::Number,
-        lo,
-        hi,
-    }
 }
 
 /// The cell of a name in scope.
@@ -424,21 +385,10 @@ pub(crate) fn build<'a>(
     terms: &[Term<'a>],
     steps: &[Step],
 ) -> Result<Builder<'a>, AllocError>
-    ensures { (p : Program) → Spells Language.Whole p (map term_view terms.now) → AreSteps p steps.now
+    ensures { (language : Language) (p : Program) → Spells language p (map term_view terms.now) → AreSteps p steps.now
         → length (program_cells p) ≤ 4294967295
         → IfOk result (λ b. IsBuilt p (built_view b)) }
 {
     places_law();
     build_steps(alloc, terms, steps)
-}
-
-/// The surface of the program that is built.
-pub(crate) fn finish(alloc: Global, built: Builder<'_>) -> Result<Surface, ReadFault>
-    requires { (text : List ℕ) × (p : Program) × IsReady text p (built_view built) }
-    ensures found { (text : List ℕ) (p : Program) → IsReady text p (built_view built.entry)
-        → IfOk result (IsSurfaceOf p) }
-    ensures fault { IfErr result (λ fault. fault ≡ ReadFault.Memory) }
-{
-    let forms = forms(alloc, &built.drafts)?;
-    Ok(Surface::make(built.cells, built.declared as u32, forms))
 }

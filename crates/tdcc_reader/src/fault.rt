@@ -19,9 +19,10 @@ pub enum ReadFault {
     Later { lexeme: u32 },
     /// The lexemes are no program, and so many of them begin one.
     Syntax { lexeme: u32 },
-    /// With this lexeme begins the first unit that is inside 64 others.
+    /// With this lexeme begins the first unit that is inside 64 others; in a core text, 8,192.
     TooDeep { lexeme: u32 },
-    /// With this lexeme begins the first ninth token of a constraint.
+    /// With this lexeme begins the first token of a constraint that goes past 8; in a core text past 16, where `x=n` is
+    /// two.
     TooManyTokens { lexeme: u32 },
     /// This name is declared where a declaration of it is in scope.
     DoubleName { lexeme: u32 },

@@ -1,9 +1,13 @@
-//! The reader of programs: from the bytes of a text to its cells and forms, or to the first refusal.
+//! The reader of programs and of core programs: from the bytes of a text to its cells and forms, or to the first
+//! refusal.
 #![tactic(auto)]
 
 mod build;
+mod cells;
+mod dialect;
 mod draft;
 mod fault;
+mod finish;
 mod laws;
 mod lexing;
 mod limits;
@@ -15,7 +19,8 @@ mod terms;
 #[cfg(test)]
 mod tests;
 
+pub use dialect::Dialect;
 pub use fault::ReadFault;
 pub use laws::refusal_law;
-pub use reader::read_program;
-pub use surface::{Form, Surface};
+pub use reader::{read_program, read_text};
+pub use surface::{Form, Parts, Surface};

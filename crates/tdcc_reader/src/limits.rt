@@ -1,24 +1,19 @@
-// The limits of a program: the first unit that is too deep, or the first token that is one too many.
+// The limits of a program of a dialect: the first unit that is too deep, or the first token that is one too many.
 ghost use Rattle.std.specs.Prelude.{◌≡◌, ◌<◌, ◌^◌, IfErr, IfOk, IsOk, None, if◌then◌else◌, map};
 ghost use Rattle.program_grammar.specs.Phrases.{Program};
 ghost use Rattle.program_grammar.specs.Programs.{Spells};
 ghost use Rattle.program_grammar.specs.Reading.{AreSteps};
-ghost use Rattle.program_grammar.specs.declared.words.Language.TheVariants as Language;
-ghost use Rattle.tdcc_reader.specs.LimitPass.{deeper, higher, leaves_limit, limit_pass, limits, no_tokens, takes_limit, takes_unit, token_begins, unit_begins};
+ghost use Rattle.program_grammar.specs.declared.words.Language.{Language};
+ghost use Rattle.tdcc_reader.specs.LimitPass.{deeper, higher, leaves_limit, limit_pass, limits, no_tokens, takes_bound, takes_equation, takes_limit, takes_unit, token_begins, unit_begins};
 ghost use Rattle.tdcc_reader.specs.Limits.{first, program_limit};
 ghost use Rattle.tdcc_reader.specs.Passes.{over_steps};
 ghost use Rattle.tdcc_reader.specs.Refusals.{RefusesLimits};
 ghost use Rattle.tdcc_reader.specs.TermViews.{term_view};
 
+use crate::dialect::Dialect;
 use crate::fault::ReadFault;
 use crate::terms::{Term, word_at};
 use program_grammar::{Part, Step, Word, places_law};
-
-/// The greatest depth of a unit.
-const MAX_DEPTH: usize = 64;
-
-/// The most tokens of a constraint, as they are written.
-const MAX_TOKENS: usize = 8;
 
 /// What went past a limit.
 #[derive(Clone, Copy, Debug, PartialEq, Eq)]
@@ -52,22 +47,22 @@ impl Limits {
         }
     }
 
-    fn unit_begins(self, lexeme: u32) -> Limits
+    fn unit_begins(self, dialect: Dialect, lexeme: u32) -> Limits
         requires { self.depth < 2 ^ 63 }
-        ensures { result ≡ unit_begins lexeme self }
+        ensures { result ≡ unit_begins dialect lexeme self }
     {
-        let past = MAX_DEPTH < self.depth + 1;
+        let past = dialect.max_depth() < self.depth + 1;
         Limits {
             found: self.or_found(past, Limit::TooDeep(lexeme)),
             ..self
         }
     }
 
-    fn token_begins(self, lexeme: u32) -> Limits
+    fn token_begins(self, dialect: Dialect, lexeme: u32) -> Limits
         requires { self.tokens < 2 ^ 63 }
-        ensures { result ≡ token_begins lexeme self }
+        ensures { result ≡ token_begins dialect lexeme self }
     {
-        let past = MAX_TOKENS < self.tokens + 1;
+        let past = dialect.max_tokens() < self.tokens + 1;
         Limits {
             tokens: self.tokens + 1,
             found: self.or_found(past, Limit::TooManyTokens(lexeme)),
@@ -100,27 +95,49 @@ impl Limits {
         Limits { tokens: 0, ..self }
     }
 
-    fn take_unit(self, lexeme: u32, word: Word) -> Limits
+    fn take_unit(self, dialect: Dialect, lexeme: u32, word: Word) -> Limits
         requires depth { self.depth < 2 ^ 63 }
         requires tokens { self.tokens < 2 ^ 63 }
-        ensures { result ≡ takes_unit lexeme word self }
+        ensures { result ≡ takes_unit dialect lexeme word self }
     {
-        let begun = self.unit_begins(lexeme);
+        let begun = self.unit_begins(dialect, lexeme);
         match word {
             Word::Skip => begun,
-            Word::Name | Word::Bang | Word::Hash => begun.token_begins(lexeme),
+            Word::Name | Word::Bang | Word::Hash => begun.token_begins(dialect, lexeme),
             _ => begun.deeper(),
         }
     }
 
-    fn take(self, lexeme: u32, part: Part, word: Word) -> Limits
+    /// An equation, which in a core text is a second token. It begins with the name in front.
+    fn take_equation(self, dialect: Dialect, lexeme: u32) -> Limits
+        requires { self.tokens < 2 ^ 63 }
+        ensures { result ≡ takes_equation dialect lexeme self }
+    {
+        match dialect {
+            Dialect::Program => self,
+            Dialect::Core => self.token_begins(dialect, lexeme.saturating_sub(1)),
+        }
+    }
+
+    fn take_bound(self, dialect: Dialect, lexeme: u32, word: Word) -> Limits
+        requires { self.tokens < 2 ^ 63 }
+        ensures { result ≡ takes_bound dialect lexeme word self }
+    {
+        match word {
+            Word::Equal => self.take_equation(dialect, lexeme),
+            _ => self,
+        }
+    }
+
+    fn take(self, dialect: Dialect, lexeme: u32, part: Part, word: Word) -> Limits
         requires depth { self.depth < 2 ^ 63 }
         requires tokens { self.tokens < 2 ^ 63 }
-        ensures { result ≡ takes_limit lexeme part word self }
+        ensures { result ≡ takes_limit dialect lexeme part word self }
     {
         match part {
-            Part::OneUnit => self.take_unit(lexeme, word),
-            Part::OneToken => self.token_begins(lexeme),
+            Part::OneUnit => self.take_unit(dialect, lexeme, word),
+            Part::OneToken => self.token_begins(dialect, lexeme),
+            Part::Bound => self.take_bound(dialect, lexeme, word),
             Part::TheClose | Part::TheWatching | Part::TheOn => self.higher(),
             _ => self,
         }
@@ -138,8 +155,8 @@ impl Limits {
 }
 
 /// What the steps go past first.
-fn first_limit(terms: &[Term<'_>], steps: &[Step]) -> Option<Limit>
-    ensures { result ≡ (over_steps limit_pass (map term_view terms.now) steps.now (limits 0 0 None)).found }
+fn first_limit(dialect: Dialect, terms: &[Term<'_>], steps: &[Step]) -> Option<Limit>
+    ensures { result ≡ (over_steps (limit_pass dialect) (map term_view terms.now) steps.now (limits 0 0 None)).found }
 {
     let mut limits = Limits {
         depth: 0,
@@ -148,7 +165,7 @@ fn first_limit(terms: &[Term<'_>], steps: &[Step]) -> Option<Limit>
     };
     for step in steps {
         limits = match *step {
-            Step::Took(part, place) => limits.take(place, part, word_at(terms, place)),
+            Step::Took(part, place) => limits.take(dialect, place, part, word_at(terms, place)),
             Step::Left(part) => limits.leave(part),
         };
     }
@@ -156,24 +173,28 @@ fn first_limit(terms: &[Term<'_>], steps: &[Step]) -> Option<Limit>
 }
 
 /// What the program of these terms and steps goes past first.
-fn past_limit(terms: &[Term<'_>], steps: &[Step]) -> Option<Limit>
-    ensures { (p : Program) → Spells Language.Whole p (map term_view terms.now) → AreSteps p steps.now
-        → result ≡ program_limit p }
+fn past_limit(dialect: Dialect, terms: &[Term<'_>], steps: &[Step]) -> Option<Limit>
+    ensures { (language : Language) (p : Program) → Spells language p (map term_view terms.now) → AreSteps p steps.now
+        → result ≡ program_limit dialect p }
 {
     places_law();
-    first_limit(terms, steps)
+    first_limit(dialect, terms, steps)
 }
 
 /// Looks whether the program of these terms and steps keeps the limits.
-pub(crate) fn check_limits(terms: &[Term<'_>], steps: &[Step]) -> Result<(), ReadFault>
-    ensures kept { (p : Program) → Spells Language.Whole p (map term_view terms.now) → AreSteps p steps.now
-        → IfOk result (λ _. program_limit p ≡ None) }
-    ensures fault { (p : Program) → Spells Language.Whole p (map term_view terms.now) → AreSteps p steps.now
-        → IfErr result (RefusesLimits p) }
-    ensures only { (p : Program) → Spells Language.Whole p (map term_view terms.now) → AreSteps p steps.now
-        → program_limit p ≡ None → IsOk result }
+pub(crate) fn check_limits(
+    dialect: Dialect,
+    terms: &[Term<'_>],
+    steps: &[Step],
+) -> Result<(), ReadFault>
+    ensures kept { (language : Language) (p : Program) → Spells language p (map term_view terms.now) → AreSteps p steps.now
+        → IfOk result (λ _. program_limit dialect p ≡ None) }
+    ensures fault { (language : Language) (p : Program) → Spells language p (map term_view terms.now) → AreSteps p steps.now
+        → IfErr result (RefusesLimits dialect p) }
+    ensures only { (language : Language) (p : Program) → Spells language p (map term_view terms.now) → AreSteps p steps.now
+        → program_limit dialect p ≡ None → IsOk result }
 {
-    match past_limit(terms, steps) {
+    match past_limit(dialect, terms, steps) {
         None => Ok(()),
         Some(Limit::TooDeep(lexeme)) => Err(ReadFault::TooDeep { lexeme }),
         Some(Limit::TooManyTokens(lexeme)) => Err(ReadFault::TooManyTokens { lexeme }),

@@ -4,7 +4,7 @@ ghost use Rattle.std.specs.Prelude.{◌≡◌, IfErr, IfOk, None, OnOk, [], map,
 ghost use Rattle.program_grammar.specs.Phrases.{Program};
 ghost use Rattle.program_grammar.specs.Programs.{Spells};
 ghost use Rattle.program_grammar.specs.Reading.{AreSteps};
-ghost use Rattle.program_grammar.specs.declared.words.Language.TheVariants as Language;
+ghost use Rattle.program_grammar.specs.declared.words.Language.{Language};
 ghost use Rattle.tdcc_reader.specs.declared.fault.ReadFault as ReadFault;
 ghost use Rattle.tdcc_reader.specs.NamingPass.{declares, known_view, leaves_names, leaves_scope, names, names_view, naming_pass, note, takes_fixed, takes_high, takes_low, takes_name, takes_names, takes_number, uses_name, with_bound, without_bound};
 ghost use Rattle.tdcc_reader.specs.Passes.{over_steps};
@@ -264,7 +264,7 @@ fn name_fault(
     terms: &[Term<'_>],
     steps: &[Step],
 ) -> Result<Option<NameFault>, AllocError>
-    ensures { (p : Program) → Spells Language.Whole p (map term_view terms.now) → AreSteps p steps.now
+    ensures { (language : Language) (p : Program) → Spells language p (map term_view terms.now) → AreSteps p steps.now
         → IfOk result (λ found. found ≡ program_fault p) }
 {
     places_law();
@@ -277,11 +277,11 @@ pub(crate) fn check_names(
     terms: &[Term<'_>],
     steps: &[Step],
 ) -> Result<(), ReadFault>
-    ensures kept { (p : Program) → Spells Language.Whole p (map term_view terms.now) → AreSteps p steps.now
+    ensures kept { (language : Language) (p : Program) → Spells language p (map term_view terms.now) → AreSteps p steps.now
         → IfOk result (λ _. program_fault p ≡ None) }
-    ensures fault { (p : Program) → Spells Language.Whole p (map term_view terms.now) → AreSteps p steps.now
+    ensures fault { (language : Language) (p : Program) → Spells language p (map term_view terms.now) → AreSteps p steps.now
         → IfErr result (RefusesNames p) }
-    ensures only { (p : Program) → Spells Language.Whole p (map term_view terms.now) → AreSteps p steps.now
+    ensures only { (language : Language) (p : Program) → Spells language p (map term_view terms.now) → AreSteps p steps.now
         → program_fault p ≡ None → IfErr result (λ fault. fault ≡ ReadFault.Memory) }
 {
     match name_fault(alloc, terms, steps) {

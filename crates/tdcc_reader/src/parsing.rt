@@ -1,4 +1,4 @@
-// The steps of a program, with the refusals of its grammar.
+// The steps of a program of a dialect, with the refusals of its grammar.
 ghost use Rattle.std.specs.Prelude.{◌≡◌, ◌≤◌, ◌<◌, ◌^◌, IfErr, IfOk, MatchResult, length, map, position};
 ghost use Rattle.program_grammar.specs.Phrases.{Program};
 ghost use Rattle.program_grammar.specs.Reading.{AreSteps};
@@ -7,26 +7,18 @@ ghost use Rattle.tdcc_reader.specs.declared.fault.ReadFault as ReadFault;
 ghost use Rattle.tdcc_reader.specs.Stages.{is_later};
 ghost use Rattle.tdcc_reader.specs.TermViews.{term_view};
 
+use crate::dialect::Dialect;
 use crate::fault::ReadFault;
 use crate::terms::{Term, words};
-use program_grammar::{Language, ParseFault, Step, Word, parse};
+use program_grammar::{ParseFault, Step, Word, parse};
+use program_lexemes::MAX_TEXT;
 use std::alloc::Global;
 
 /// Whether the word belongs to a form that is not built yet.
 fn is_later(word: Word) -> bool
     ensures { result ≡ is_later word }
 {
-    matches!(
-        word,
-        Word::Always
-            | Word::When
-            | Word::Do
-            | Word::Watching
-            | Word::Time
-            | Word::On
-            | Word::Set
-            | Word::Colon
-    )
+    matches!(word, Word::Set | Word::Colon)
 }
 
 /// The first word of a form that is not built yet.
@@ -37,12 +29,16 @@ fn first_later(words: &[Word]) -> Option<usize>
 }
 
 /// The steps of the program that the terms are.
-pub(crate) fn read_steps(alloc: Global, terms: &[Term<'_>]) -> Result<Vec<Step>, ReadFault>
-    requires { length terms.now ≤ 65536 }
+pub(crate) fn read_steps(
+    alloc: Global,
+    dialect: Dialect,
+    terms: &[Term<'_>],
+) -> Result<Vec<Step>, ReadFault>
+    requires { length terms.now ≤ MAX_TEXT }
     ensures found { IfOk result (λ steps. (p : Program) ×
-        IsProgramOf (map term_view terms.now) p × AreSteps p steps.items) }
-    ensures fault { IfErr result (RefusesTerms (map term_view terms.now)) }
-    ensures only { (p : Program) → IsProgramOf (map term_view terms.now) p
+        IsProgramOf dialect (map term_view terms.now) p × AreSteps p steps.items) }
+    ensures fault { IfErr result (RefusesTerms dialect (map term_view terms.now)) }
+    ensures only { (p : Program) → IsProgramOf dialect (map term_view terms.now) p
         → MatchResult result (λ steps. AreSteps p steps.items) (λ fault. fault ≡ ReadFault.Memory) }
 {
     let words = words(alloc, terms)?;
@@ -51,7 +47,7 @@ pub(crate) fn read_steps(alloc: Global, terms: &[Term<'_>]) -> Result<Vec<Step>,
             lexeme: place as u32,
         });
     }
-    match parse(alloc, Language::Whole, &words) {
+    match parse(alloc, dialect.language(), &words) {
         Ok(steps) => Ok(steps),
         Err(ParseFault::Syntax { place }) => Err(ReadFault::Syntax { lexeme: place }),
         Err(ParseFault::Memory) => Err(ReadFault::Memory),

@@ -35,6 +35,15 @@ pub enum Form {
     Time { body: u32, clock: Constraint },
 }
 
+/// What is read of a text: the declared cells and then one local cell for each `new`, how many are declared, and the
+/// forms in preorder.
+#[derive(Debug, Drop)]
+pub struct Parts {
+    pub cells: Vec<CellDecl>,
+    pub declared: u32,
+    pub forms: Vec<Form>,
+}
+
 /// A program as it is written: the declared cells and then one local cell for each `new`, how many are declared, and
 /// the forms in preorder.
 #[derive(Debug, Drop)]

@@ -4,7 +4,7 @@ ghost use Rattle.program_grammar.specs.Terms.{Skip, class_of, classes};
 ghost use Rattle.program_lexemes.specs.Forms.{kind_of};
 ghost use Rattle.program_lexemes.specs.Lexemes.{IsIn, bytes_of};
 ghost use Rattle.program_lexemes.specs.Numbers.{is_long};
-ghost use Rattle.program_lexemes.specs.declared.bytes.TextForm.TheVariants as TextForm;
+ghost use Rattle.program_lexemes.specs.declared.bytes.TextForm.{TextForm};
 ghost use Rattle.tdcc_reader.specs.Sayings.{keyword_term, says, symbol_term, terms_of, too_long};
 ghost use Rattle.tdcc_reader.specs.TermViews.{term_view};
 
@@ -106,7 +106,7 @@ fn symbol_says<'a>(bytes: &'a [u8]) -> Term<'a>
 
 /// What a lexeme of this kind with these bytes says.
 fn says<'a>(kind: LexKind, bytes: &'a [u8]) -> Term<'a>
-    requires is { kind_of TextForm.Program bytes.now ≡ Some kind }
+    requires is { (form : TextForm) × (kind_of form bytes.now ≡ Some kind) }
     requires short { is_long kind bytes.now ≡ false }
     ensures { term_view result ≡ says kind bytes.now }
 {
@@ -125,7 +125,7 @@ pub(crate) fn terms<'a>(
     text: &'a [u8],
     lexemes: &[Lexeme],
 ) -> Result<Result<Vec<Term<'a>>, usize>, AllocError>
-    requires { All (IsIn TextForm.Program text.now) lexemes.now }
+    requires { (form : TextForm) × All (IsIn form text.now) lexemes.now }
     ensures { IfOk result (λ read. MatchResult read
         (λ ts. (position (too_long text.now) lexemes.now ≡ None) × (map term_view ts.items ≡ terms_of text.now lexemes.now))
         (λ place. position (too_long text.now) lexemes.now ≡ Some place)) }

@@ -152,6 +152,49 @@ fn an_equation_is_two_bounds(rt: HostRuntime) -> Result<(), Fail> {
 }
 
 #[test]
+fn a_derived_form_has_its_body_behind_it(rt: HostRuntime) -> Result<(), Fail> {
+    let read = read_program(
+        rt.alloc(),
+        b"signal a, b; do always a || next a watching b || time when a do b on b",
+    )?;
+    assert_eq!(rt; read.forms().len(), 10);
+    assert!(rt; matches!(read.forms().get(0), Some(Form::Par { left: 1, right: 7 })));
+    assert!(rt; matches!(read.forms().get(1), Some(Form::Watch { body: 2, .. })));
+    assert!(rt; matches!(read.forms().get(2), Some(Form::Par { left: 3, right: 5 })));
+    assert!(rt; matches!(read.forms().get(3), Some(Form::Always { body: 4 })));
+    assert!(rt; matches!(read.forms().get(7), Some(Form::Time { body: 8, .. })));
+    assert!(rt; matches!(read.forms().get(8), Some(Form::When { body: 9, .. })));
+    Ok(())
+}
+
+/// The refusal of the core text.
+fn core_refusal(alloc: Global, text: &[u8]) -> Option<ReadFault> {
+    read_text(alloc, Dialect::Core, text).err()
+}
+
+#[test]
+fn a_core_text_has_core_forms_alone(rt: HostRuntime) {
+    let alloc = rt.alloc();
+    assert_eq!(rt;
+        core_refusal(alloc, b"new signal $1 in { $1 || hence $1 }"),
+        None
+    );
+    assert_eq!(rt;
+        refusal(alloc, b"new signal $1 in { $1 || hence $1 }"),
+        Some(ReadFault::Lex { offset: 11 })
+    );
+    assert_eq!(rt;
+        core_refusal(alloc, b"signal a; always a"),
+        Some(ReadFault::Syntax { lexeme: 3 })
+    );
+    assert_eq!(rt; refusal(alloc, b"signal a; always a"), None);
+    assert_eq!(rt;
+        core_refusal(alloc, b"signal a; set"),
+        Some(ReadFault::Later { lexeme: 3 })
+    );
+}
+
+#[test]
 fn too_many_cells_are_told_last(rt: HostRuntime) -> Result<(), Fail> {
     let alloc = rt.alloc();
     let mut text = Vec::new(alloc);

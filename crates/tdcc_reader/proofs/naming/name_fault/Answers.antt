@@ -1,6 +1,5 @@
 use Rattle.std.proofs.Common.{ap, ◌∙◌, None, []}
 use Rattle.std.specs.Prelude.{map}
-use Rattle.program_grammar.specs.declared.words.Language.TheVariants as language
 use Rattle.tdcc_reader.specs.declared.naming.Waiting.TheVariants as waiting
 use Rattle.tdcc_reader.specs.TermViews.{term_view}
 use Rattle.tdcc_reader.specs.NamingPass.{names, naming_pass}
@@ -10,5 +9,5 @@ use Rattle.tdcc_reader.proofs.Scoped.{program_scoped}
 use Rattle.tdcc_reader.proofs.naming.name_fault.Goals as goal
 
 pub returns : goal.returns
-returns c = λ p spells steps. ok_along c.first_fault.result _ _ c.first_fault.ensures
-    (ap (λ s. s.found) (over_program naming_pass (names [] waiting.Nothing None) c.places_law.ensures.events language.Whole p (map term_view c.args.terms.now) c.args.steps.now spells steps) ∙ program_scoped p)
+returns c = λ language p spells steps. ok_along c.first_fault.result _ _ c.first_fault.ensures
+    (ap (λ s. s.found) (over_program naming_pass (names [] waiting.Nothing None) c.places_law.ensures.events language p (map term_view c.args.terms.now) c.args.steps.now spells steps) ∙ program_scoped p)

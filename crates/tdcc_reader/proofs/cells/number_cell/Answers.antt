@@ -4,7 +4,7 @@ use Rattle.std.proofs.lemmas.Int.{to_z-of_z}
 use Rattle.token_system.specs.Domain.{is_cell}
 use Rattle.token_system.specs.declared.cell.Kind.TheVariants as kind
 use Rattle.tdcc_reader.specs.Surfaces.{declared, signal, number}
-use Rattle.tdcc_reader.proofs.build.number_cell.Goals as goal
+use Rattle.tdcc_reader.proofs.cells.number_cell.Goals as goal
 
 number_is : (x : List ℕ) (lo hi : ℤ) → is_cell kind.Number lo hi ≡ true → declared x kind.Number lo hi ≡ number x lo hi
 number_is x lo hi e = sym (ap (λ b. if b then declared x kind.Number lo hi else signal x) e)

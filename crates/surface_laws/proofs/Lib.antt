@@ -1,0 +1,9 @@
+pub mod FitTerms
+pub mod FitPhrases
+pub mod LocalCells
+pub mod CellViews
+pub mod PlacedNames
+pub mod ScopedPhrases
+pub mod CellNames
+pub mod FreshNames
+pub mod WellFormed

@@ -1,0 +1,42 @@
+// The cells that declarations make.
+ghost use Rattle.std.specs.Prelude.{◌≡◌, ℕ, List};
+ghost use Rattle.token_system.specs.Domain.{is_cell};
+ghost use Rattle.token_system.specs.declared.cell.Kind.TheVariants as Kind;
+ghost use Rattle.tdcc_reader.specs.Surfaces.{declared_as, number, signal};
+
+use token_system::{Cell, Kind};
+
+/// The greatest number in a domain; the least one is its negation.
+const MAX_BOUND: i64 = 999_999_999;
+
+/// The cell of a signal.
+pub(crate) fn signal_cell() -> Cell
+    ensures { (x : List ℕ) → declared_as x result ≡ signal x }
+{
+    Cell {
+        kind: Kind::Signal,
+        lo: 0,
+        hi: 0,
+    }
+}
+
+/// Whether these are the bounds of a domain.
+fn is_domain(lo: i64, hi: i64) -> bool
+    ensures { result ≡ is_cell Kind.Number lo hi }
+{
+    -MAX_BOUND <= lo && lo <= MAX_BOUND && -MAX_BOUND <= hi && hi <= MAX_BOUND && lo <= hi
+}
+
+/// The cell of a number with this domain.
+pub(crate) fn number_cell(lo: i64, hi: i64) -> Cell
+    ensures { (x : List ℕ) → declared_as x result ≡ number x lo hi }
+{
+    if !is_domain(lo, hi) {
+        return signal_cell();
+    }
+    Cell {
+        kind: Kind::Number,
+        lo,
+        hi,
+    }
+}

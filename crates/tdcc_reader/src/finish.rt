@@ -1,0 +1,30 @@
+// What is read of a text, from what is built.
+ghost use Rattle.std.specs.Prelude.{◌≡◌, ℕ, List, IfErr, IfOk};
+ghost use Rattle.program_grammar.specs.Phrases.{Program};
+ghost use Rattle.tdcc_reader.specs.BuildPass.{built_view};
+ghost use Rattle.tdcc_reader.specs.Builds.{IsReady};
+ghost use Rattle.tdcc_reader.specs.Parts.{surface_of};
+ghost use Rattle.tdcc_reader.specs.Surfaces.{IsSurfaceOf};
+ghost use Rattle.tdcc_reader.specs.declared.dialect.Dialect.{Dialect};
+ghost use Rattle.tdcc_reader.specs.declared.fault.ReadFault as ReadFault;
+
+use crate::build::Builder;
+use crate::draft::forms;
+use crate::fault::ReadFault;
+use crate::surface::Parts;
+use std::alloc::Global;
+
+/// The parts of the program that is built.
+pub(crate) fn finish(alloc: Global, built: Builder<'_>) -> Result<Parts, ReadFault>
+    requires { (dialect : Dialect) × (text : List ℕ) × (p : Program) × IsReady dialect text p (built_view built) }
+    ensures found { (dialect : Dialect) (text : List ℕ) (p : Program) → IsReady dialect text p (built_view built.entry)
+        → IfOk result (λ parts. IsSurfaceOf p (surface_of parts)) }
+    ensures fault { IfErr result (λ fault. fault ≡ ReadFault.Memory) }
+{
+    let forms = forms(alloc, &built.drafts)?;
+    Ok(Parts {
+        cells: built.cells,
+        declared: built.declared as u32,
+        forms,
+    })
+}
