@@ -1,4 +1,7 @@
-pub mod Trees
-pub mod Forms
-pub mod Expansions
-pub mod ProgramTexts
+pub mod Pieces
+pub mod Growths
+pub mod Growing
+pub mod Placing
+pub mod Numbered
+pub mod Refusals
+pub mod Promises

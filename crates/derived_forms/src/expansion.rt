@@ -1,90 +1,39 @@
 // The core program of a surface.
-ghost use Rattle.std.specs.Prelude.{◌≡◌, ◌≤◌, All, IfErr, IfOk, length, map};
-ghost use Rattle.derived_forms.specs.Expansions.{IsExpansion, Refuses};
-ghost use Rattle.derived_forms.specs.Forms.{IsCoreForm, form_of};
+ghost use Rattle.std.specs.Prelude.{◌≡◌, ◌+◌, ◌≤◌, IfErr, IfOk, length, reverse};
+ghost use Rattle.core_text.specs.GoodNames.{HasGoodNames};
+ghost use Rattle.expansion_laws.specs.Expansions.{IsExpansion, IsSketchOf};
+ghost use Rattle.expansion_laws.specs.Paths.{StopsForGood, TellsAreClocked, TellsAreGuarded, TellsStem};
+ghost use Rattle.expansion_laws.specs.Sketches.{Sketch, marks, size};
+ghost use Rattle.derived_forms.specs.Pieces.{pieces};
+ghost use Rattle.derived_forms.specs.Promises.{OnItsTree};
+ghost use Rattle.derived_forms.specs.Refusals.{Refuses};
 ghost use Rattle.derived_forms.specs.declared.fault.ExpandFault as ExpandFault;
 
+use crate::cells::number_cells;
 use crate::fault::ExpandFault;
-use agent_core::{CellDecl, Constraint, Name, Node, Program};
+use crate::growing::grow;
+use crate::growth::MAX_NODES;
+use crate::numbering::number_nodes;
+use crate::piece::Piece;
+use crate::placing::place_cells;
+use agent_core::Program;
+use expansion_laws::{clocks_law, expansion_law, origins_law, sizes_law, stops_law, watches_law};
 use std::alloc::{AllocError, Global};
-use tdcc_reader::{Form, Surface};
-
-/// The most nodes that a program may have.
-const MAX_NODES: usize = 4_096;
+use tdcc_reader::Surface;
 
 /// The most cells that a program may have.
 const MAX_CELLS: usize = 1_024;
 
-/// The constraint with memory of its own.
-fn constraint_copy(alloc: Global, ask: &Constraint) -> Result<Constraint, AllocError>
-    ensures { IfOk result (λ copy. copy ≡ ask.now) }
+/// The marks of the news, in preorder, of nodes that are given with the last one first.
+fn marks_of(alloc: Global, grown: &[Piece]) -> Result<Vec<u32>, AllocError>
+    ensures marks { (d : Sketch) → reverse grown.now ≡ pieces d → IfOk result (λ found. found.items ≡ marks d) }
+    ensures few { IfOk result (λ found. length found.items ≤ length grown.now) }
 {
-    Ok(Constraint::make(ask.list().to_vec(alloc)?))
-}
-
-/// The node of a form.
-fn node_of(alloc: Global, form: &Form) -> Result<Node, AllocError>
-    requires { IsCoreForm form.now }
-    ensures { IfOk result (λ node. form_of node ≡ form.now) }
-{
-    match form {
-        Form::Skip => Ok(Node::Skip),
-        Form::Tell(told) => Ok(Node::Tell(constraint_copy(alloc, told)?)),
-        Form::Then { ask, body } => Ok(Node::Then {
-            ask: constraint_copy(alloc, ask)?,
-            body: *body,
-        }),
-        Form::Else { ask, body } => Ok(Node::Else {
-            ask: constraint_copy(alloc, ask)?,
-            body: *body,
-        }),
-        Form::Par { left, right } => Ok(Node::Par {
-            left: *left,
-            right: *right,
-        }),
-        Form::New { cell, body } => Ok(Node::New {
-            cell: *cell,
-            body: *body,
-        }),
-        Form::Hence { body } => Ok(Node::Hence { body: *body }),
-        Form::Next { body } => Ok(Node::Next { body: *body }),
-        Form::Always { .. } | Form::When { .. } | Form::Watch { .. } | Form::Time { .. } => {
-            unreachable!()
-        }
-    }
-}
-
-/// The nodes of the forms.
-fn nodes_of(alloc: Global, forms: &[Form]) -> Result<Vec<Node>, AllocError>
-    requires { All IsCoreForm forms.now }
-    ensures { IfOk result (λ nodes. map form_of nodes.items ≡ forms.now) }
-{
-    let mut nodes = Vec::new(alloc);
-    for form in forms {
-        nodes.push(node_of(alloc, form)?)?;
-    }
-    Ok(nodes)
-}
-
-/// The cell with memory of its own.
-fn cell_copy(alloc: Global, decl: &CellDecl) -> Result<CellDecl, AllocError>
-    ensures { IfOk result (λ copy. copy ≡ decl.now) }
-{
-    Ok(CellDecl {
-        name: Name::make(decl.name.bytes().to_vec(alloc)?),
-        cell: decl.cell,
-    })
-}
-
-/// The cells with memory of their own.
-fn cells_copy(alloc: Global, cells: &[CellDecl]) -> Result<Vec<CellDecl>, AllocError>
-    ensures { IfOk result (λ copy. copy.items ≡ cells.now) }
-{
-    let mut copy = Vec::new(alloc);
-    for decl in cells {
-        copy.push(cell_copy(alloc, decl)?)?;
-    }
-    Ok(copy)
+    grown
+        .iter()
+        .rev()
+        .filter_map(|piece| piece.mark())
+        .collect(alloc)
 }
 
 /// The core program of a surface.
@@ -99,23 +48,40 @@ pub fn expand(alloc: Global, surface: &Surface) -> Result<Program, ExpandFault>
     // A refusal is the one that the sizes give.
     ensures fault { IfErr result (Refuses surface.now) }
     // Where the sizes are within their limits, the program is made.
-    ensures only { length surface.now.forms ≤ 4096 → length surface.now.cells ≤ 1024
+    ensures only { (d : Sketch) → IsSketchOf surface.now d → size d ≤ 4096 → surface.now.declared + length (marks d) ≤ 1024
         → IfErr result (λ fault. fault ≡ ExpandFault.Memory) }
-    // Want of memory is told only of a surface that is not too large.
-    ensures memory { IfErr result (λ fault. fault ≡ ExpandFault.Memory
-        → (length surface.now.forms ≤ 4096) × (length surface.now.cells ≤ 1024)) }
+    // The names of its cells can be written and read back.
+    ensures names { IfOk result HasGoodNames }
+    // Each of its tells copies one of the surface, or tells the hidden signal of a form.
+    ensures stems { IfOk result (OnItsTree surface.now TellsStem) }
+    // What is inside a watching waits for the absence of its hidden signal, and what is inside a time for the clock.
+    ensures guarded { IfOk result (OnItsTree surface.now TellsAreGuarded) }
+    ensures clocked { IfOk result (OnItsTree surface.now TellsAreClocked) }
+    // A watching in no other and in no time stops for good.
+    ensures stopped { IfOk result (OnItsTree surface.now StopsForGood) }
+    // Want of memory is told only of a surface that has no more forms than a program may have nodes.
+    ensures memory { IfErr result (λ fault. fault ≡ ExpandFault.Memory → length surface.now.forms ≤ 4096) }
 {
+    expansion_law();
+    sizes_law();
+    origins_law();
+    watches_law();
+    clocks_law();
+    stops_law();
     let forms = surface.forms();
     let cells = surface.cells();
+    let declared = surface.declared();
     if forms.len() > MAX_NODES {
         return Err(ExpandFault::TooManyNodes);
     }
-    if cells.len() > MAX_CELLS {
+    let grown = grow(alloc, forms, cells.len() as u32)?;
+    let marks = marks_of(alloc, &grown)?;
+    if declared as usize + marks.len() > MAX_CELLS {
         return Err(ExpandFault::TooManyCells);
     }
-    let nodes = nodes_of(alloc, forms)?;
-    let copies = cells_copy(alloc, cells)?;
-    match Program::make(copies, surface.declared(), nodes) {
+    let nodes = number_nodes(alloc, place_cells(alloc, declared, grown)?)?;
+    let cells = number_cells(alloc, cells, declared, &marks)?;
+    match Program::make(cells, declared, nodes) {
         Some(program) => Ok(program),
         None => unreachable!(),
     }

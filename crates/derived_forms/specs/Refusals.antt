@@ -1,0 +1,20 @@
+-- Which surfaces have too large a core program. This project's own.
+use Rattle.std.specs.Prelude.{ℕ, ◌+◌, ◌<◌, ◌≤◌, length}
+use Rattle.tdcc_reader.specs.Surfaces.{SurfaceProgram}
+use Rattle.expansion_laws.specs.Sketches.{Sketch, size, marks}
+use Rattle.expansion_laws.specs.Expansions.{IsSketchOf}
+use Rattle.derived_forms.specs.declared.fault.ExpandFault.{ExpandFault}
+use Rattle.derived_forms.specs.declared.fault.ExpandFault.TheVariants.{TooManyNodes, TooManyCells, Memory}
+
+-- The core program would have more than 4,096 nodes; or it would not, and it would have more than 1,024 cells. Want of memory
+-- says nothing of the surface.
+abbrev pub Refuses : SurfaceProgram → ExpandFault → Type 0
+Refuses s TooManyNodes = (d : Sketch) × IsSketchOf s d × (4096 < size d)
+Refuses s TooManyCells = (d : Sketch) × IsSketchOf s d × (size d ≤ 4096) × (1024 < s.declared + length (marks d))
+Refuses s Memory = Unit {0}
+
+-- So many nodes are too many; the number of cells is not told before the sketch is whole.
+abbrev pub IsTooLarge : ℕ → ExpandFault → Type 0
+IsTooLarge nodes TooManyNodes = 4096 < nodes
+IsTooLarge nodes TooManyCells = ⊥
+IsTooLarge nodes Memory = Unit {0}

@@ -1,0 +1,159 @@
+-- The tells of a time's body ask for the clock.
+use Rattle.std.proofs.Common.{◌≡◌, ℕ, suc, ◌+◌, List, [], ◌∷◌, ◌++◌, length, None, refl, sym, ap, ◌∙◌, arith, append_assoc, inl, inr}
+use Rattle.std.specs.Prelude.{Option, unwrap_or, Contains}
+use Rattle.std.proofs.lemmas.List.{append-nil}
+use Rattle.std.proofs.lemmas.List.Elements.{Contains-append_left, Contains-push}
+use Rattle.token_system.specs.declared.cell.Token.{Token}
+use Rattle.agent_core.specs.Agents.{Ask}
+use Rattle.agent_core.specs.Leaves.{Guard, Asks, Denies}
+use Rattle.agent_core.specs.Facts.{AreInScope}
+use Rattle.agent_core.specs.Programs.{CoreProgram}
+use Rattle.agent_core.specs.Strata.{Each}
+use Rattle.tdcc_reader.specs.Trees.{Tree, Time}
+use Rattle.surface_laws.specs.Surfaces.{Scoped}
+use Rattle.expansion_laws.specs.Sketches.{Sketch, Skip, Tell, Then, Else, Par, New, Hence, Next}
+use Rattle.expansion_laws.specs.Numbering.{Placed, placed, cell_of, ask_of}
+use Rattle.expansion_laws.specs.Table.{on, when, clocked, timed}
+use Rattle.expansion_laws.specs.Expanding.{sketch_of}
+use Rattle.expansion_laws.specs.Origins.{part, parts, copied}
+use Rattle.expansion_laws.proofs.Walks.{Way, way, below, asked, denied, born, cells_of, IsKnown, AreKnown, Reads, Opens, IsEven, even_born, reads_first, opens_same, opens_born, EachTell, Ever, Own, always_kept}
+use Rattle.expansion_laws.proofs.Stemming.{Has, has_own}
+use Rattle.expansion_laws.proofs.Enclosing.{IsBelow, IsValid, stands}
+
+-- the path asks for a constraint that copies this one, read where the news of its local cells were around
+pub record IsClocked (ms : List ℕ) (floor : ℕ) (c : Ask) (w : Way) : Type 0 where
+  pub ask : Ask
+  pub copies : copied ms ask ≡ c
+  pub births : List ℕ
+  pub more : List ℕ
+  pub first : w.births ≡ births ++ more
+  pub older : List Placed
+  pub newer : List Placed
+  pub last : w.scope ≡ newer ++ older
+  pub even : length births ≡ length older
+  pub known : AreKnown floor (cells_of older) ask
+  pub asks : Contains w.path (Asks births ask)
+
+pub clocked_on : (ms : List ℕ) (floor : ℕ) (c : Ask) (w : Way) (g : Guard) → IsClocked ms floor c w → IsClocked ms floor c (below w g)
+clocked_on ms floor c w g h = record {
+  ask = h.ask;
+  copies = h.copies;
+  births = h.births;
+  more = h.more;
+  first = h.first;
+  older = h.older;
+  newer = h.newer;
+  last = h.last;
+  even = h.even;
+  known = h.known;
+  asks = Contains-append_left w.path (g ∷ []) (Asks h.births h.ask) h.asks;
+}
+
+-- each cell of the constraint is read in this scope
+abbrev pub ReadsAll : List ℕ → ℕ → List Placed → Ask → Type 0
+ReadsAll ms floor scope c = Each (λ (pair : ℕ × Token). Reads ms floor scope pair.0) c
+
+module _ (ms : List ℕ) (floor : ℕ) where
+  -- the constraint is copied
+  pub read_back : (scope : List Placed) (c : Ask) → ReadsAll ms floor scope c → copied ms (ask_of scope c) ≡ c
+  read_back scope [] h = refl
+  read_back scope (pair ∷ c) h =
+      ap (λ (cell : ℕ). (cell, pair.1) ∷ copied ms (ask_of scope c)) (ap (λ o. unwrap_or o (cell_of scope pair.0)) h.0.marked)
+      ∙ ap (λ (ask : Ask). pair ∷ ask) (read_back scope c h.1)
+
+  pub all_known : (scope : List Placed) (c : Ask) → ReadsAll ms floor scope c → AreKnown floor (cells_of scope) (ask_of scope c)
+  all_known scope [] h = tt
+  all_known scope (pair ∷ c) h = (h.0.known, all_known scope c h.1)
+
+  wider : (w v : Way) → Opens ms w v → (c : Ask) → ReadsAll ms floor w.scope c → ReadsAll ms floor v.scope c
+  wider w v o [] h = tt
+  wider w v o (pair ∷ c) h = (o.wide floor pair.0 h.0, wider w v o c h.1)
+
+  -- below the ask itself
+  pub asked_clocked : (w : Way) (c : Ask) → IsEven w → ReadsAll ms floor w.scope c → IsClocked ms floor c (asked w c)
+  asked_clocked w c even h = record {
+    ask = ask_of w.scope c;
+    copies = read_back w.scope c h;
+    births = w.births;
+    more = [];
+    first = sym (append-nil w.births);
+    older = w.scope;
+    newer = [];
+    last = refl;
+    even = even;
+    known = all_known w.scope c h;
+    asks = Contains-push w.path (Asks w.births (ask_of w.scope c));
+  }
+
+  born_clocked : (w : Way) (c : Ask) (mark cell t : ℕ) → IsClocked ms floor c w → IsClocked ms floor c (born w mark cell t)
+  born_clocked w c mark cell t h = record {
+    ask = h.ask;
+    copies = h.copies;
+    births = h.births;
+    more = h.more ++ t ∷ [];
+    first = ap (λ (b : List ℕ). b ++ t ∷ []) h.first ∙ append_assoc h.births h.more (t ∷ []);
+    older = h.older;
+    newer = placed mark cell ∷ h.newer;
+    last = ap (λ (q : List Placed). placed mark cell ∷ q) h.last;
+    even = h.even;
+    known = h.known;
+    asks = h.asks;
+  }
+
+  module _ (R : Option ℕ → Way → Ask → Type 0) (d : ℕ) (c : Ask) (has : (o : Option ℕ) (w : Way) (b : Ask) → IsClocked ms floor c w → R o w b) (own : Own ms R d) where
+    -- what holds wherever c is asked for holds of when c do A
+    whenever : (a : Sketch) → ((w : Way) → IsEven w → ReadsAll ms floor w.scope c → IsClocked ms floor c w → EachTell ms R w a) → (w : Way) → IsEven w → ReadsAll ms floor w.scope c → EachTell ms R w (when d c a)
+    whenever a h w even reads cell t e = always_kept ms R under inner ever under same
+      where
+        under : Way
+        under = born w d cell t
+
+        same : Opens ms under under
+        same = opens_same ms under (even_born w d cell t even)
+
+        inner : Sketch
+        inner = Then None c (Par None (Else None (on d) a) (Hence None (Tell None (on d))))
+
+        ever : Ever ms R under inner
+        ever v o =
+            let still = wider under v o c (wider w under (opens_born ms w w d cell t e (opens_same ms w even)) c reads) in
+            let first = o.wide 0 d (reads_first ms 0 w.scope d cell d refl e) in (
+              h (denied (asked v c) (on d)) o.even still (clocked_on ms floor c (asked v c) (Denies v.births (ask_of v.scope (on d))) (asked_clocked v c o.even still)),
+              λ u q. own u (q.wide 0 d first),
+            )
+
+    -- below an ask for the clock each tell of the clocked sketch is on it
+    clocks_each : (a : Sketch) (w : Way) → IsEven w → ReadsAll ms floor w.scope c → IsClocked ms floor c w → EachTell ms R w (clocked d c a)
+    clocks_each (Skip o) w even reads h = tt
+    clocks_each (Tell o b) w even reads h = has o w b h
+    clocks_each (Then o b a) w even reads h = clocks_each a (asked w b) even reads (clocked_on ms floor c w (Asks w.births (ask_of w.scope b)) h)
+    clocks_each (Else o b a) w even reads h = clocks_each a (denied w b) even reads (clocked_on ms floor c w (Denies w.births (ask_of w.scope b)) h)
+    clocks_each (Par o l r) w even reads h = (clocks_each l w even reads h, clocks_each r w even reads h)
+    clocks_each (New o mark a) w even reads h = λ cell t e.
+        clocks_each a (born w mark cell t) (even_born w mark cell t even) (wider w (born w mark cell t) (opens_born ms w w mark cell t e (opens_same ms w even)) c reads) (born_clocked w c mark cell t h)
+    clocks_each (Hence o a) w even reads h = λ v q. let still = wider w v q c reads in clocks_each a (asked v c) q.even still (asked_clocked v c q.even still)
+    clocks_each (Next o a) w even reads h = λ v q. whenever (clocked d c a) (clocks_each a) v q.even (wider w v q c reads)
+
+    pub time_clocks : (a : Sketch) (w : Way) → IsEven w → ReadsAll ms floor w.scope c → EachTell ms R w (timed d c a)
+    time_clocks a w even reads = whenever (clocked d c a) (clocks_each a) w even reads
+
+  -- what is in scope is read
+  pub in_scope : (p : CoreProgram) → (locals : List ℕ) (w : Way) → p.declared ≡ floor → IsValid ms floor locals w → (c : Ask) → AreInScope p locals c → ReadsAll ms floor w.scope c
+  in_scope p locals w same v [] h = tt
+  in_scope p locals w same v (pair ∷ c) h = (v.reads pair.0 (go h.0.visible), in_scope p locals w same v c h.1)
+    where
+      go : IsKnown p.declared locals pair.0 → IsKnown floor locals pair.0
+      go (inl lt) = inl (omega arith)
+      go (inr among) = inr among
+
+-- in the sketch of a tree each tell that stems from a form inside this time is on the clock
+pub tree_clocks : (q : CoreProgram) (cells : ℕ) (ms : List ℕ) (tree : Tree) (m : ℕ) (a : Tree) (c : Ask) → Scoped q [] tree → ((mark : ℕ) → IsKnown q.declared [] mark → Reads ms q.declared [] mark) → Contains (parts 0 tree) (part m (Time a c))
+    → EachTell ms (Has cells ms (IsBelow m (Time a c)) (IsClocked ms q.declared c)) (way [] [] []) (sketch_of cells 0 tree)
+tree_clocks q cells ms tree m a c scoped read k =
+    let In = IsBelow m (Time a c) in
+    let G = IsClocked ms q.declared c in
+    let at = stands cells ms q.declared m (Time a c) G (clocked_on ms q.declared c) [] tree 0 k in
+    let clock = (at.scoped q scoped).1.tokens in
+    let own = has_own cells ms In G m (λ i. let behind = i.0 in omega arith) in
+    let here = time_clocks ms q.declared (Has cells ms In G) (cells + m) c (λ o w b h form stems i. h) own (sketch_of cells (suc m) a) in
+    at.each (λ w v. here w v.even (in_scope ms q.declared q at.around w refl v c clock)) (way [] [] []) (record { even = refl; reads = read })
