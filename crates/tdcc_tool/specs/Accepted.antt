@@ -3,8 +3,9 @@ use Rattle.std.specs.Prelude.{ℕ, ◌≤◌, List, length}
 use Rattle.agent_core.specs.Programs.{CoreProgram}
 use Rattle.agent_core.specs.Strata.{Stratifies}
 use Rattle.tdcc_reader.specs.Surfaces.{SurfaceProgram}
+use Rattle.tdcc_reader.specs.declared.dialect.Dialect.TheVariants.{Program}
 use Rattle.tdcc_reader.specs.Texts.{ReadsAs}
-use Rattle.derived_forms.specs.Expansions.{IsExpansion}
+use Rattle.expansion_laws.specs.Expansions.{IsExpansion}
 
 -- the program is that of the surface, and is within the limits
 pub record IsCoreOf (s : SurfaceProgram) (p : CoreProgram) : Type 0 where
@@ -15,7 +16,7 @@ pub record IsCoreOf (s : SurfaceProgram) (p : CoreProgram) : Type 0 where
 -- the text is this program's, which is within the limits
 pub record IsBuilt (text : List ℕ) (p : CoreProgram) : Type 0 where
   pub surface : SurfaceProgram
-  pub reads : ReadsAs text surface
+  pub reads : ReadsAs Program text surface
   pub core : IsCoreOf surface p
 
 -- and some table of numbers stratifies it

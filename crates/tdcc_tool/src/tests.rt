@@ -2,6 +2,7 @@
 ghost use Rattle.std.specs.Prelude.{◌<◌};
 
 mod core_texts;
+mod derived;
 mod devices;
 mod lines;
 mod over_time;
@@ -90,15 +91,26 @@ fn in_pieces(alloc: Global, input: &[u8], size: usize, fails: Vec<u64>) -> Resul
     Ok(MemSource::new(pieces, fails))
 }
 
-/// Asserts what `run` answers to the input, in whatever pieces it comes.
+/// Asserts what a call with these words answers to the input.
+fn assert_call<R: Threads + Sync + Abort>(
+    rt: &R,
+    alloc: Global,
+    text: &str,
+    input: &[u8],
+    wanted: &str,
+) -> Result<(), Fail> {
+    let source = in_pieces(alloc, input, 4096, Vec::new(alloc))?;
+    assert_over(rt, alloc, text, source, roomy(alloc)?, wanted)
+}
+
+/// Asserts what `run` answers to the input.
 fn assert_run<R: Threads + Sync + Abort>(
     rt: &R,
     alloc: Global,
     input: &[u8],
     wanted: &str,
 ) -> Result<(), Fail> {
-    let source = in_pieces(alloc, input, 4096, Vec::new(alloc))?;
-    assert_over(rt, alloc, "run", source, roomy(alloc)?, wanted)
+    assert_call(rt, alloc, "run", input, wanted)
 }
 
 /// Asserts that the text is refused, and what is said of it.

@@ -70,19 +70,6 @@ fn a_program_that_depends_on_its_own_absence_is_refused(rt: HostRuntime) -> Resu
 }
 
 #[test]
-fn texts_of_other_forms_are_refused(rt: HostRuntime) -> Result<(), Fail> {
-    for text in [
-        "signal a, b; always if a else b\n%%\n\na\n",
-        "signal a, b; when a do b",
-        "signal a, b; do a watching b",
-        "signal a, b; time a on b",
-    ] {
-        assert_refused(&rt, rt.alloc(), text, "not built yet at lexeme 5")?;
-    }
-    Ok(())
-}
-
-#[test]
 fn texts_that_are_no_program_are_refused(rt: HostRuntime) -> Result<(), Fail> {
     for (text, reason) in [
         ("", "syntax at lexeme 0"),

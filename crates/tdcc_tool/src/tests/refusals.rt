@@ -1,5 +1,6 @@
 //! Each kind of refusal of a program text, at the place that is named for it.
 
+mod derived;
 mod limits;
 mod names;
 mod order;

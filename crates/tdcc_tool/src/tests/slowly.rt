@@ -4,7 +4,6 @@ ghost use Rattle.agent_core.specs.Stores.{IsInput};
 
 use super::assert_run;
 use crate::reading::program_of;
-use crate::store_line::write_stores;
 use agent_core::Program;
 use denotation_laws::slow_run;
 use std::alloc::Global;
@@ -13,7 +12,7 @@ use std::test::Fail;
 use std::thread::Threads;
 use strata::strata;
 use token_system::Store;
-use trace_text::read_input;
+use trace_text::{read_input, write_store};
 
 /// The inputs that these lines give.
 fn inputs_of(alloc: Global, program: &Program, lines: &[&str]) -> Result<Vec<Store>, Fail>
@@ -42,8 +41,12 @@ fn found_slowly(alloc: Global, text: &[u8], lines: &[&str]) -> Result<Vec<u8>, F
         return Err(Fail::from("not stratified"));
     };
     let ins = inputs_of(alloc, &program, lines)?;
-    let outs = slow_run(alloc, &program, &levels, &ins)?;
-    Ok(write_stores(alloc, &program, &outs)?)
+    let mut lines = Vec::new(alloc);
+    for store in slow_run(alloc, &program, &levels, &ins)?.iter() {
+        write_store(&program, store, &mut lines)?;
+        lines.push(b'\n')?;
+    }
+    Ok(lines)
 }
 
 /// Asserts that `run` writes what the evaluator finds.
@@ -94,6 +97,16 @@ fn programs_of_each_form_run_as_the_evaluator_says(rt: HostRuntime) -> Result<()
         "signal a, b; int x in -999999999..999999999; x>=999999999",
         "signal a, b; new int x in 0..3 in {x>=2 || next if x>=2 then a} ||
             hence new int x in 0..3 in {x<=1 || next if x=2 then a}",
+        "signal a, b; always if a else b",
+        "signal a, b; always if a else next a",
+        "signal a, b; when a do b",
+        "signal a, b; always when a do next b",
+        "signal a, b; do always b watching a",
+        "signal a, b; do {b || next when b do always a} watching b",
+        "signal a, b; time always b on a",
+        "signal a, b; time {b || next b} on a",
+        "signal a, b; time do always {b || next a} watching b on a",
+        "signal a, b; always new signal s in {s || if s then a || next if s then b}",
         "signal a, b; !a || #b || if b & !b then a || hence {if a & b else new int z in 0..1 in z=1}",
     ] {
         assert_same(&rt, rt.alloc(), text, &lines)?;

@@ -22,7 +22,7 @@ fn a_bad_byte_comes_before_faults_of_lexemes_in_front_of_it(rt: HostRuntime) -> 
         ("abcdefghijklmnopqrstuvwxyz_012345 ?", 34),
         ("? abcdefghijklmnopqrstuvwxyz_012345", 0),
         ("1234567890 ?", 11),
-        ("always ?", 7),
+        ("set ?", 4),
         ("|| ?", 3),
         ("a b ?", 4),
         ("a&a&a&a&a&a&a&a&a ?", 18),
@@ -38,7 +38,7 @@ fn a_bad_byte_comes_before_faults_of_lexemes_in_front_of_it(rt: HostRuntime) -> 
 fn a_long_name_or_number_comes_before_faults_in_front_of_it(rt: HostRuntime) -> Result<(), Fail> {
     let alloc = rt.alloc();
     let rows = [
-        ("always abcdefghijklmnopqrstuvwxyz_012345", 1),
+        ("set abcdefghijklmnopqrstuvwxyz_012345", 1),
         ("a b abcdefghijklmnopqrstuvwxyz_012345", 2),
         ("|| abcdefghijklmnopqrstuvwxyz_012345", 1),
         ("signal a, a; abcdefghijklmnopqrstuvwxyz_012345", 5),
@@ -48,7 +48,7 @@ fn a_long_name_or_number_comes_before_faults_in_front_of_it(rt: HostRuntime) -> 
     ];
     assert_places(&rt, alloc, "long name at lexeme", &rows)?;
     let rows = [
-        ("always 1234567890", 1),
+        ("set 1234567890", 1),
         ("signal a; a>=1234567890", 5),
         ("b || x=1234567890", 4),
         ("int x in 1234567890..0; skip", 3),
@@ -65,21 +65,22 @@ fn a_word_of_a_form_not_built_comes_before_faults_in_front_of_it(
 ) -> Result<(), Fail> {
     let alloc = rt.alloc();
     let rows = [
-        ("always a b", 0),
-        ("a b always", 2),
-        ("|| when", 1),
+        ("set a b", 0),
+        ("a b set", 2),
+        ("|| set", 1),
         ("a :", 1),
         ("if a then b else : c", 5),
-        ("on always", 0),
+        ("on set", 1),
         (": set", 0),
-        ("a&a&a&a&a&a&a&a&a || always a", 18),
-        ("signal a, a; on", 5),
-        ("int x in 5..4; time", 7),
-        ("b || do b", 2),
-        ("signal a; a>=3 watching", 6),
+        ("a&a&a&a&a&a&a&a&a || set a", 18),
+        ("signal a, a; set", 5),
+        ("int x in 5..4; set", 7),
+        ("b || set b", 2),
+        ("signal a; a>=3 set", 6),
+        ("signal on; set", 3),
     ];
     assert_places(&rt, alloc, "not built yet at lexeme", &rows)?;
-    let deep = [("{", 64), ("always a", 1), ("}", 64)];
+    let deep = [("{", 64), ("set a", 1), ("}", 64)];
     assert_parts_refused(&rt, alloc, &deep, "not built yet at lexeme 64")
 }
 

@@ -78,23 +78,19 @@ fn the_first_word_of_a_form_not_built_is_named(rt: HostRuntime) -> Result<(), Fa
     // Names that only begin with such a word, or have capitals.
     assert_accepted(&rt, alloc, "signal always1, whenever, on_, Set; on_ || Set")?;
     let rows = [
-        ("always", 0),
-        ("when", 0),
-        ("do", 0),
-        ("watching", 0),
-        ("time", 0),
-        ("on", 0),
         ("set", 0),
         (":", 0),
-        ("signal a; always a", 3),
-        ("signal a; if a then always a", 6),
-        ("signal on; skip", 1),
-        ("signal a; a on", 4),
+        ("signal a; set a", 3),
+        ("signal a; if a then set a", 6),
+        ("signal set; skip", 1),
+        ("signal a; a set", 4),
         ("signal a: skip", 2),
         ("signal a; set s in 0..3; skip", 3),
-        ("signal a, b; {a} watching b", 8),
-        ("signal a, b; a || {b || time a on b}", 10),
-        ("a on when do", 1),
+        ("signal a, b; {a} set b", 8),
+        ("signal a, b; a || {b || a : b}", 11),
+        ("always set", 1),
+        ("do a watching :", 3),
+        ("a : set", 1),
     ];
     assert_places(&rt, alloc, "not built yet at lexeme", &rows)
 }
