@@ -4,5 +4,7 @@ pub mod KeptNumbers
 pub mod Numbers
 pub mod SplitWords
 pub mod SaidLimits
+pub mod WorkersWords
 pub mod CommandWords
 pub mod OtherWorkers
+pub mod NetRange

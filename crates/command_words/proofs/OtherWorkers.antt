@@ -4,14 +4,14 @@ use Rattle.std.specs.List.{Contains}
 use Rattle.std.proofs.lemmas.List.{map-append}
 use Rattle.std.proofs.lemmas.List.Elements.{Contains-append_left, Contains-append_right, Contains-append_cases, Contains-push_cases}
 use Rattle.command_words.specs.declared.command.Command.{Command}
-use Rattle.command_words.specs.declared.command.Command.TheVariants.{Run, Report, Check, Core}
+use Rattle.command_words.specs.declared.command.Command.TheVariants.{Run, Report, Check, Core, Generate}
 use Rattle.command_words.specs.declared.settings.Limits.{Limits}
 use Rattle.command_words.specs.declared.settings.Setting.{Setting}
 use Rattle.command_words.specs.declared.settings.Setting.TheVariants.{Workers, Fuel, Net}
-use Rattle.command_words.specs.Settings.{AreLimits, AreOnce, AreSettings, IsLimit, IsSetting, SaysLimits}
-use Rattle.command_words.specs.Words.{CallAlike, IsCommand, IsWithLimits, SetsWorkers}
+use Rattle.command_words.specs.Settings.{AreLimits, AreOnce, AreSettings, IsLimit, IsNumber, IsSetting, SaysLimits, flag_of}
+use Rattle.command_words.specs.Words.{CallAlike, IsCommand, IsWithLimits, IsWithLines, MaySetWorkers, SetsWorkers}
 use Rattle.command_words.proofs.OnceSettings.{once_flags, once_without}
-use Rattle.command_words.proofs.SettingWords.{between, joined, pair_of}
+use Rattle.command_words.proofs.SettingWords.{between, flag_no_number, joined, no_more, pair_of}
 use Rattle.command_words.proofs.CommandWords.{first_word, one_command, word_of}
 
 -- no setting, or one of workers
@@ -61,6 +61,13 @@ no_flag (Run _) e = cc
 no_flag (Report _) e = cc
 no_flag Check e = cc
 no_flag Core e = cc
+no_flag (Generate _) e = cc
+
+-- the words of no setting, or of one of workers, may set the workers
+may_set : (words : List (List ℕ)) (us : List Setting) → AtMostWorkers us → AreSettings words us → MaySetWorkers words
+may_set words us (inr (k, e)) are = inr (k, subst (AreSettings words) e are)
+may_set [] us (inl e) are = inl refl
+may_set (word ∷ words) us (inl e) are = absurd (no_more word words (subst (AreSettings (word ∷ words)) e are))
 
 module _ (more others : List (List ℕ)) (flag number : List ℕ) (n : ℕ) (us : List Setting) (most : AtMostWorkers us) (is : IsSetting flag number (Workers n)) (are : AreSettings others us) where
   -- the limits stay
@@ -94,10 +101,43 @@ module _ (more others : List (List ℕ)) (flag number : List ℕ) (n : ℕ) (us 
   not_empty [] e = cc
   not_empty (_ ∷ _) e = cc
 
+  -- words that may set the workers are these alone, and so may the others
+  may_same : (front : List (List ℕ)) → MaySetWorkers ((front ++ flag ∷ number ∷ []) ++ more) → MaySetWorkers ((front ++ others) ++ more)
+  may_same front (inl e) = absurd (not_empty front e)
+  may_same [] (inr (k, set)) =
+      let pair = pair_of (flag ∷ number ∷ more) (Workers k) set in
+      let none : [] ≡ more = let words_are = pair.words_are in cc in
+      subst (λ (ws : List (List ℕ)). MaySetWorkers (others ++ ws)) none (rw append-nil (may_set others us most are))
+  may_same (w ∷ []) (inr (k, set)) =
+      let pair = pair_of (w ∷ flag ∷ number ∷ more) (Workers k) set in
+      let words_are = pair.words_are in
+      absurd (cc)
+  may_same (w ∷ v ∷ front) (inr (k, set)) =
+      let pair = pair_of (w ∷ v ∷ ((front ++ flag ∷ number ∷ []) ++ more)) (Workers k) set in
+      let words_are = pair.words_are in
+      absurd (not_empty front (let h : (front ++ flag ∷ number ∷ []) ++ more ≡ [] = cc in h))
+
+  -- so the number of lines stays: the words that set the workers stand behind it
+  lines_same : (first : List ℕ) (front : List (List ℕ)) (lines : ℕ) → IsWithLines (first ∷ ((front ++ flag ∷ number ∷ []) ++ more)) lines → IsWithLines (first ∷ ((front ++ others) ++ more)) lines
+  lines_same first [] lines x =
+      let at : x.number ≡ flag_of (Workers n) = let flag_is = is.is in cc in
+      absurd (flag_no_number (Workers n) lines (subst (λ word. IsNumber word lines) at x.writes))
+  lines_same first (w ∷ front) lines x =
+      let behind : x.more ≡ (front ++ flag ∷ number ∷ []) ++ more = cc in
+      record {
+        number = w;
+        more = (front ++ others) ++ more;
+        first = ap (λ f. f ∷ w ∷ ((front ++ others) ++ more)) (let h : first ≡ codes "gen" = cc in h);
+        writes = subst (λ word. IsNumber word lines) (let h : x.number ≡ w = cc in h) x.writes;
+        allowed = x.allowed;
+        workers = may_same front (subst MaySetWorkers behind x.workers);
+      }
+
   -- the command stays
   calls_same : (front : List (List ℕ)) (command : Command) → IsCommand command ((front ++ flag ∷ number ∷ []) ++ more) → IsCommand command ((front ++ others) ++ more)
   calls_same (w ∷ front) (Run limits) x = with_same (codes "run") w front limits x
   calls_same (w ∷ front) (Report limits) x = with_same (codes "report") w front limits x
+  calls_same (w ∷ front) (Generate lines) x = lines_same w front lines x
   calls_same (w ∷ front) Check x = absurd (not_empty front (let h : (front ++ flag ∷ number ∷ []) ++ more ≡ [] = cc in h))
   calls_same (w ∷ front) Core x = absurd (not_empty front (let h : (front ++ flag ∷ number ∷ []) ++ more ≡ [] = cc in h))
   calls_same [] command x =

@@ -22,7 +22,7 @@ one_list (flag ∷ number ∷ words) (s ∷ ss) (t ∷ ts) x y = ap (λ a. a ∷
 one_list _ _ _ x y = absurd (assumption)
 
 -- where no setting is left, no word is
-no_more : (word : List ℕ) (words : List (List ℕ)) → AreSettings (word ∷ words) [] → ⊥
+pub no_more : (word : List ℕ) (words : List (List ℕ)) → AreSettings (word ∷ words) [] → ⊥
 no_more word [] x = x
 no_more word (_ ∷ _) x = x
 
@@ -39,7 +39,7 @@ pair_of (f ∷ n ∷ word ∷ words) s x = absurd (no_more word words x.1)
 pair_of _ s x = absurd (assumption)
 
 -- a flag is no number
-flag_no_number : (s : Setting) (n : ℕ) → IsNumber (flag_of s) n → ⊥
+pub flag_no_number : (s : Setting) (n : ℕ) → IsNumber (flag_of s) n → ⊥
 flag_no_number (Workers _) n x = let h = x.digits.1.0 in omega arith
 flag_no_number (Fuel _) n x = let h = x.digits.1.0 in omega arith
 flag_no_number (Net _) n x = let h = x.digits.1.0 in omega arith

@@ -1,10 +1,11 @@
 -- The words of each command. This project's own.
-use Rattle.std.specs.Prelude.{◌≡◌, ℕ, List, [], ◌∷◌, codes, ◌↔◌}
+use Rattle.std.specs.Prelude.{◌≡◌, ℕ, List, [], ◌∷◌, codes, ◌⊎◌, ◌↔◌}
+use Rattle.std.specs.Int.{IsInRange}
 use Rattle.command_words.specs.declared.command.Command.{Command}
-use Rattle.command_words.specs.declared.command.Command.TheVariants.{Run, Report, Check, Core}
+use Rattle.command_words.specs.declared.command.Command.TheVariants.{Run, Report, Check, Core, Generate}
 use Rattle.command_words.specs.declared.settings.Limits.{Limits}
 use Rattle.command_words.specs.declared.settings.Setting.TheVariants.{Workers}
-use Rattle.command_words.specs.Settings.{AreSettings, SaysLimits}
+use Rattle.command_words.specs.Settings.{AreSettings, IsNumber, SaysLimits}
 
 -- this word stands first, and the others say the limits
 pub record IsWithLimits (word : List ℕ) (words : List (List ℕ)) (limits : Limits) : Type 0 where
@@ -12,12 +13,30 @@ pub record IsWithLimits (word : List ℕ) (words : List (List ℕ)) (limits : Li
   pub first : words ≡ word ∷ more
   pub says : SaysLimits more limits
 
+-- the words are `--workers` and a number of workers
+abbrev pub SetsWorkers : List (List ℕ) → Type 0
+SetsWorkers words = (n : ℕ) × AreSettings words (Workers n ∷ [])
+
+-- there are no words, or those of a number of workers
+abbrev pub MaySetWorkers : List (List ℕ) → Type 0
+MaySetWorkers words = (words ≡ []) ⊎ SetsWorkers words
+
+-- `gen` stands first, then a number of lines, 1 to 65,536, and the others may set the workers
+pub record IsWithLines (words : List (List ℕ)) (lines : ℕ) : Type 0 where
+  pub number : List ℕ
+  pub more : List (List ℕ)
+  pub first : words ≡ codes "gen" ∷ number ∷ more
+  pub writes : IsNumber number lines
+  pub allowed : IsInRange 1 65536 lines
+  pub workers : MaySetWorkers more
+
 -- the words are those of the command
 abbrev pub IsCommand : Command → List (List ℕ) → Type 0
 IsCommand (Run limits) words = IsWithLimits (codes "run") words limits
 IsCommand (Report limits) words = IsWithLimits (codes "report") words limits
 IsCommand Check words = words ≡ codes "check" ∷ []
 IsCommand Core words = words ≡ codes "core" ∷ []
+IsCommand (Generate lines) words = IsWithLines words lines
 
 -- the words are those of none of the commands
 abbrev pub IsNoCommand : List (List ℕ) → Type 0
@@ -26,7 +45,3 @@ IsNoCommand words = (command : Command) → IsCommand command words → ⊥
 -- the two lists of words call the same commands, or both call none
 abbrev pub CallAlike : List (List ℕ) → List (List ℕ) → Type 0
 CallAlike words others = (command : Command) → IsCommand command words ↔ IsCommand command others
-
--- the words are `--workers` and a number of workers
-abbrev pub SetsWorkers : List (List ℕ) → Type 0
-SetsWorkers words = (n : ℕ) × AreSettings words (Workers n ∷ [])

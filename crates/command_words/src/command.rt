@@ -1,8 +1,8 @@
 //! The commands, and the words that call them.
-ghost use Rattle.std.specs.Prelude.{MatchOption, map, string_bytes};
-ghost use Rattle.command_words.specs.Words.{IsCommand, IsNoCommand};
+ghost use Rattle.std.specs.Prelude.{ℕ, ◌∷◌, ◌↔◌, IsTrue, MatchOption, codes, map, string_bytes};
+ghost use Rattle.command_words.specs.Words.{IsCommand, IsNoCommand, IsWithLines, MaySetWorkers};
 
-use crate::settings::{Limits, limits_of};
+use crate::settings::{Limits, Setting, limits_of, number_of, setting_of};
 
 /// What the tool is told to do.
 #[derive(Clone, Copy, Debug, PartialEq, Eq)]
@@ -15,6 +15,8 @@ pub enum Command {
     Check,
     /// Writes the core text of the program.
     Core,
+    /// Generates a program and a trace of so many lines, runs them, and writes a summary.
+    Generate(u32),
 }
 
 /// The command that the words call, where they call one. It takes no memory.
@@ -27,6 +29,32 @@ pub fn command_of(words: &[String]) -> Option<Command>
         "report" => Some(Command::Report(limits_of(more)?)),
         "check" if more.is_empty() => Some(Command::Check),
         "core" if more.is_empty() => Some(Command::Core),
+        "gen" => Some(Command::Generate(lines_of(more)?)),
         _ => None,
+    }
+}
+
+/// The number of lines that the words behind `gen` ask for.
+fn lines_of(words: &[String]) -> Option<u32>
+    ensures { MatchOption result ((lines : ℕ) → IsWithLines (codes "gen" ∷ map string_bytes words.now) lines → ⊥) (IsWithLines (codes "gen" ∷ map string_bytes words.now)) }
+{
+    let (number, more) = words.split_first()?;
+    match number_of(number.as_str())? {
+        lines @ 1..=65_536 if may_set_workers(more) => Some(lines),
+        _ => None,
+    }
+}
+
+/// Whether there are no words, or those of a number of workers.
+fn may_set_workers(words: &[String]) -> bool
+    ensures { IsTrue result ↔ MaySetWorkers (map string_bytes words.now) }
+{
+    match words {
+        [] => true,
+        [flag, number] => matches!(
+            setting_of(flag.as_str(), number.as_str()),
+            Some(Setting::Workers(_))
+        ),
+        _ => false,
     }
 }

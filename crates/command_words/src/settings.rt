@@ -12,7 +12,7 @@ pub struct Limits {
 
 /// What a flag and its number set.
 #[derive(Clone, Copy, Debug, PartialEq, Eq)]
-enum Setting {
+pub(crate) enum Setting {
     /// How many workers there are, 1 to 64.
     Workers(u32),
     /// How many agents may run, in all instants together.
@@ -63,7 +63,7 @@ impl Settings {
 }
 
 /// The number that the word writes: one to nine digits.
-fn number_of(word: &str) -> Option<u32>
+pub(crate) fn number_of(word: &str) -> Option<u32>
     ensures { MatchOption result ((n : ℕ) → IsNumber word.now n → ⊥) (IsNumber word.now) }
 {
     if word.len() > 9 || word.starts_with('+') {
@@ -73,7 +73,7 @@ fn number_of(word: &str) -> Option<u32>
 }
 
 /// The setting that a flag and its number are.
-fn setting_of(flag: &str, number: &str) -> Option<Setting>
+pub(crate) fn setting_of(flag: &str, number: &str) -> Option<Setting>
     ensures { MatchOption result ((s : Setting) → IsSetting flag.now number.now s → ⊥) (IsSetting flag.now number.now) }
 {
     match (flag, number_of(number)?) {

@@ -50,6 +50,29 @@ fn a_report_takes_the_settings_of_a_run_and_the_others_take_none(
 }
 
 #[test]
+fn a_number_of_lines_stands_behind_gen_and_then_at_most_the_workers(
+    rt: HostRuntime,
+) -> Result<(), Fail> {
+    for (line, lines) in [
+        ("gen 1", 1),
+        ("gen 1000", 1000),
+        ("gen 65536", 65_536),
+        ("gen 00012", 12),
+        ("gen 000000007", 7),
+        ("gen 1000 --workers 1", 1000),
+        ("gen 1000 --workers 8", 1000),
+        ("gen 1000 --workers 64", 1000),
+    ] {
+        assert_eq!(rt;
+            called(rt.alloc(), line)?,
+            Some(Command::Generate(lines)),
+            "{line}"
+        );
+    }
+    Ok(())
+}
+
+#[test]
 fn all_other_words_call_no_command(rt: HostRuntime) -> Result<(), Fail> {
     assert_eq!(rt; command_of(&[]), None);
     for line in [
@@ -81,6 +104,26 @@ fn all_other_words_call_no_command(rt: HostRuntime) -> Result<(), Fail> {
         "check --fuel 1",
         "check check",
         "core --workers 1",
+        "gen",
+        "gen ",
+        "gen 0",
+        "gen 65537",
+        "gen 0000000005",
+        "gen +5",
+        "gen -5",
+        "gen five",
+        "Gen 5",
+        "5 gen",
+        "gen 5 6",
+        "gen --workers 8",
+        "gen --workers 8 1000",
+        "gen 5 --workers",
+        "gen 5 --workers 0",
+        "gen 5 --workers 65",
+        "gen 5 --workers 2 --workers 2",
+        "gen 5 --fuel 1",
+        "gen 5 --net 1",
+        "gen 5 --workers 2 --fuel 1",
     ] {
         assert_eq!(rt; called(rt.alloc(), line)?, None, "{line}");
     }
