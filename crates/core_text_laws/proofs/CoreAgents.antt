@@ -33,7 +33,7 @@ use Rattle.core_text_laws.proofs.CoreWords.{IsGap, blank_gap, line_gap, gap_whit
 
 -- REGROUPING
 
-four : (a b c d rest : List ℕ) → (((a ++ b) ++ c) ++ d) ++ rest ≡ a ++ (b ++ (c ++ (d ++ rest)))
+pub four : (a b c d rest : List ℕ) → (((a ++ b) ++ c) ++ d) ++ rest ≡ a ++ (b ++ (c ++ (d ++ rest)))
 four a b c d rest = append_assoc ((a ++ b) ++ c) d rest ∙ append_three a b c (d ++ rest)
 
 joined_tokens : (a amp b more rest : List ℕ) → (a ++ ((amp ++ b) ++ more)) ++ rest ≡ a ++ (amp ++ ((b ++ more) ++ rest))
@@ -41,7 +41,7 @@ joined_tokens a amp b more rest = simp append_assoc
 
 -- CELLS
 
-range_cut : (bytes : List ℕ) → stops (goes_on kind.Symbol (46 ∷ 46 ∷ [])) bytes
+pub range_cut : (bytes : List ℕ) → stops (goes_on kind.Symbol (46 ∷ 46 ∷ [])) bytes
 range_cut [] = tt
 range_cut (b ∷ bs) = refl
 

@@ -20,7 +20,7 @@ use Rattle.tdcc_reader.specs.Widths.{token_width, constraint_width, unit_width}
 use Rattle.core_text.specs.CoreTexts.{name_at}
 use Rattle.core_text_laws.proofs.CorePhrases.{token_phrase, ask_phrase, as_unit_phrase, local_phrase, local_at, agent_phrase, decl_phrase, decls_phrase, program_phrase}
 
-none_both : {A : Type 0} (a b : Option A) → a ≡ None → b ≡ None → first a b ≡ None
+pub none_both : {A : Type 0} (a b : Option A) → a ≡ None → b ≡ None → first a b ≡ None
 none_both a b x y = ap (λ o. first o b) x ∙ y
 
 none_if : {A : Type 0} (b : Bool) (x : A) → b ≡ false → (if b then Some x else None) ≡ None

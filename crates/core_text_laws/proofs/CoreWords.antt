@@ -1,4 +1,4 @@
--- The words of core texts: names, numbers and tokens, each with what it says.
+-- The words of texts: names and numbers, and the tokens of core texts, each with what it says.
 use Rattle.std.proofs.Common.{◌≡◌, ℕ, ℤ, pos, negsuc, suc, ◌^◌, ◌<◌, ◌≤◌, Bool, true, false, List, [], ◌∷◌, ◌++◌, length, Some, refl, ap, arith, decimal}
 use Rattle.std.specs.Prelude.{◌&&◌, if◌then◌else◌, IsTrue}
 use Rattle.std.specs.List.{list_all}
@@ -7,7 +7,7 @@ use Rattle.std.proofs.lemmas.Bool.{le-ltb}
 use Rattle.std.proofs.lemmas.Fmt.{length-decimal-le}
 use Rattle.std.proofs.lemmas.Int.{ints}
 use Rattle.program_lexemes.specs.declared.lexer.LexKind.TheVariants as kind
-use Rattle.program_lexemes.specs.declared.bytes.TextForm.TheVariants as form
+use Rattle.program_lexemes.specs.declared.bytes.TextForm.{TextForm}
 use Rattle.program_lexemes.specs.Forms.{kind_of, is_white, is_word_byte, is_digit, is_minus}
 use Rattle.program_lexemes.specs.Numbers.{is_long, number_of, digits_of}
 use Rattle.program_lexemes.specs.Pieces.{goes_on, stops}
@@ -21,9 +21,9 @@ use Rattle.token_system.specs.declared.cell.Token.{Token}
 use Rattle.token_system.specs.declared.cell.Token.TheVariants.{On, Off, Clash, AtLeast, AtMost}
 use Rattle.token_system.specs.Tokens.{fits_kind}
 use Rattle.token_system.specs.Texts.{text_of}
-use Rattle.core_text.specs.GoodNames.{IsCoreName}
+use Rattle.core_text.specs.GoodNames.{IsName, IsCoreName}
 use Rattle.core_text_laws.proofs.CorePhrases.{token_phrase}
-use Rattle.core_text_laws.proofs.Written.{append_three, Written, more_written, same_written}
+use Rattle.core_text_laws.proofs.Written.{append_three, IsWritten, Written, more_written, same_written}
 
 -- a byte that ends each word: white space, which stands in no word and is no digit
 pub record IsGap (sp : ℕ) : Type 0 where
@@ -42,7 +42,7 @@ gap_white sp gap = ap (λ (b : Bool). b && true) gap.white
 
 -- NAMES
 
-pub name_written : (x space : List ℕ) {text : List ℕ} {terms : List Term} → IsCoreName x → list_all is_white space ≡ true → stops is_word_byte (space ++ text) → Written text terms → Written (x ++ (space ++ text)) (Name x ∷ terms)
+pub name_written : {form : TextForm} (x space : List ℕ) {text : List ℕ} {terms : List Term} → IsName form x → list_all is_white space ≡ true → stops is_word_byte (space ++ text) → IsWritten form text terms → IsWritten form (x ++ (space ++ text)) (Name x ∷ terms)
 name_written x space name white cut w = more_written x kind.Name space (Name x) name.is white (le-ltb 32 (length x) name.short) cut refl w
 
 -- NUMBERS
@@ -55,9 +55,9 @@ digits_shorter (b ∷ bs) = go (is_minus b)
     go true = omega arith
     go false = omega arith
 
-number_kind : (k : ℤ) → is_bound k ≡ true → kind_of form.Core (signed_decimal k) ≡ Some kind.Number
-number_kind (pos n) h = let b : IsTrue (is_bound (pos n)) = h in let lt : n < 10 ^ 9 = grind (arith, ints) in decimal_kind form.Core n (omega arith)
-number_kind (negsuc n) h = let b : IsTrue (is_bound (negsuc n)) = h in let lt : suc n < 10 ^ 9 = grind (arith, ints) in minus_decimal_kind form.Core (suc n) (omega arith)
+number_kind : (form : TextForm) (k : ℤ) → is_bound k ≡ true → kind_of form (signed_decimal k) ≡ Some kind.Number
+number_kind form (pos n) h = let b : IsTrue (is_bound (pos n)) = h in let lt : n < 10 ^ 9 = grind (arith, ints) in decimal_kind form n (omega arith)
+number_kind form (negsuc n) h = let b : IsTrue (is_bound (negsuc n)) = h in let lt : suc n < 10 ^ 9 = grind (arith, ints) in minus_decimal_kind form (suc n) (omega arith)
 
 number_value : (k : ℤ) → is_bound k ≡ true → number_of (signed_decimal k) ≡ k
 number_value (pos n) h = let b : IsTrue (is_bound (pos n)) = h in let lt : n < 10 ^ 9 = grind (arith, ints) in number_of-decimal n (omega arith)
@@ -76,9 +76,9 @@ number_short (negsuc n) h =
     let few = length-decimal-le 9 (suc n) (omega arith) lt (omega arith) in
     le-ltb 9 (length (decimal (suc n))) few
 
-pub number_written : (k : ℤ) (space : List ℕ) {text : List ℕ} {terms : List Term} → is_bound k ≡ true → list_all is_white space ≡ true → stops is_digit (space ++ text) → Written text terms
-    → Written (signed_decimal k ++ (space ++ text)) (Number k ∷ terms)
-number_written k space bound white cut w = more_written (signed_decimal k) kind.Number space (Number k) (number_kind k bound) white (number_short k bound) cut (ap Number (number_value k bound)) w
+pub number_written : {form : TextForm} (k : ℤ) (space : List ℕ) {text : List ℕ} {terms : List Term} → is_bound k ≡ true → list_all is_white space ≡ true → stops is_digit (space ++ text) → IsWritten form text terms
+    → IsWritten form (signed_decimal k ++ (space ++ text)) (Number k ∷ terms)
+number_written {form} k space bound white cut w = more_written (signed_decimal k) kind.Number space (Number k) (number_kind form k bound) white (number_short k bound) cut (ap Number (number_value k bound)) w
 
 -- TOKENS
 
@@ -90,7 +90,7 @@ hash_cut : (bytes : List ℕ) → stops (goes_on kind.Symbol (35 ∷ [])) bytes
 hash_cut [] = tt
 hash_cut (b ∷ bs) = refl
 
-greater_cut : (bytes : List ℕ) → stops (goes_on kind.Symbol (62 ∷ 61 ∷ [])) bytes
+pub greater_cut : (bytes : List ℕ) → stops (goes_on kind.Symbol (62 ∷ 61 ∷ [])) bytes
 greater_cut [] = tt
 greater_cut (b ∷ bs) = refl
 

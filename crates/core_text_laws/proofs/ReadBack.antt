@@ -1,6 +1,7 @@
 -- The core text of a program with good names is read as that program.
 use Rattle.std.proofs.Common.{◌≡◌, [], length, refl, sym, ap, ◌∙◌, arith}
 use Rattle.std.proofs.lemmas.List.{length-map}
+use Rattle.program_lexemes.specs.declared.bytes.TextForm.TheVariants as form
 use Rattle.program_grammar.specs.Spelling.{program}
 use Rattle.agent_core.specs.Agents.{agent_at}
 use Rattle.agent_core.specs.Programs.{CoreProgram}
@@ -30,7 +31,7 @@ module _ (p : CoreProgram) (is : IsProgram p) (good : HasGoodNames p) where
   -- nothing refuses the core text, which is the program's phrase
   accepted : Accepts dialect.Core (core_text p) (program_phrase p)
   accepted =
-      let lexed = written_lexed (core_text p) (program (program_phrase p) []) (text_says p good is) in
+      let lexed = written_lexed form.Core (core_text p) (program (program_phrase p) []) (text_says p good is) in
       let declared = program_declared p is in
       let few = is.limits.few_declared in
       record {

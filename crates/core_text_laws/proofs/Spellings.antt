@@ -76,7 +76,7 @@ phrase_is_core p = decls_are_core (take p.declared p.cells) (g.Runs (agent_phras
 -- The core text of a program with good names is that program.
 pub spelled : (p : CoreProgram) → IsProgram p → HasGoodNames p → IsSpelled (core_text p) p
 spelled p is good =
-    let lexed = written_lexed (core_text p) (program (program_phrase p) []) (text_says p good is) in
+    let lexed = written_lexed form.Core (core_text p) (program (program_phrase p) []) (text_says p good is) in
     record {
       lexemes = lexed.lexemes;
       lexed = lexed.lexed;

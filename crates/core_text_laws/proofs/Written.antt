@@ -1,4 +1,4 @@
--- Texts that are written piece by piece, with the terms that they say.
+-- Texts of a form that are written piece by piece, with the terms that they say.
 use Rattle.std.proofs.Common.{◌≡◌, ℕ, suc, ◌+◌, ◌-◌, Bool, true, false, List, [], ◌∷◌, ◌++◌, length, take, drop, Some, None, refl, sym, ap, ◌∙◌, subst, arith, append_assoc, length-append}
 use Rattle.std.specs.Prelude.{map, position, not, ◌&&◌, cond}
 use Rattle.std.specs.List.{list_all, position_or_len}
@@ -6,7 +6,8 @@ use Rattle.std.proofs.lemmas.Bool.{le-ltb}
 use Rattle.std.proofs.Math.Seq.{drop-append_seam, take-append_seam}
 use Rattle.program_lexemes.specs.declared.lexer.LexKind.{LexKind}
 use Rattle.program_lexemes.specs.declared.lexer.Lexeme.{Lexeme}
-use Rattle.program_lexemes.specs.declared.bytes.TextForm.TheVariants as form
+use Rattle.program_lexemes.specs.declared.bytes.TextForm.{TextForm}
+use Rattle.program_lexemes.specs.declared.bytes.TextForm.TheVariants as forms
 use Rattle.program_lexemes.specs.Forms.{kind_of, is_white}
 use Rattle.program_lexemes.specs.Lexemes.{AreLexemes, bytes_of}
 use Rattle.program_lexemes.specs.Numbers.{is_long}
@@ -29,19 +30,23 @@ said [] = []
 said (q ∷ ps) = says q.kind q.bytes ∷ said ps
 
 -- the text is made of pieces that say these terms
-pub record Written (text : List ℕ) (terms : List Term) : Type 0 where
+pub record IsWritten (form : TextForm) (text : List ℕ) (terms : List Term) : Type 0 where
   pub pieces : List Piece
   pub text_is : joined pieces ≡ text
-  pub cut : AreCut form.Core pieces
+  pub cut : AreCut form pieces
   pub short : AreShort pieces
   pub terms_are : said pieces ≡ terms
 
-pub none_written : Written [] []
+-- as a core text
+abbrev pub Written : List ℕ → List Term → Type 0
+Written text terms = IsWritten forms.Core text terms
+
+pub none_written : {form : TextForm} → IsWritten form [] []
 none_written = record { pieces = []; text_is = refl; cut = tt; short = tt; terms_are = refl }
 
 -- a piece more, in front
-pub more_written : (bytes : List ℕ) (k : LexKind) (space : List ℕ) (term : Term) {text : List ℕ} {terms : List Term} → kind_of form.Core bytes ≡ Some k → list_all is_white space ≡ true → is_long k bytes ≡ false
-    → stops (goes_on k bytes) (space ++ text) → says k bytes ≡ term → Written text terms → Written (bytes ++ (space ++ text)) (term ∷ terms)
+pub more_written : {form : TextForm} (bytes : List ℕ) (k : LexKind) (space : List ℕ) (term : Term) {text : List ℕ} {terms : List Term} → kind_of form bytes ≡ Some k → list_all is_white space ≡ true → is_long k bytes ≡ false
+    → stops (goes_on k bytes) (space ++ text) → says k bytes ≡ term → IsWritten form text terms → IsWritten form (bytes ++ (space ++ text)) (term ∷ terms)
 more_written bytes k space term {text} {terms} is white short cut say w = record {
   pieces = record { bytes = bytes; kind = k; space = space } ∷ w.pieces;
   text_is = ap (λ (t : List ℕ). bytes ++ (space ++ t)) w.text_is;
@@ -51,8 +56,8 @@ more_written bytes k space term {text} {terms} is white short cut say w = record
 }
 
 -- the same text
-pub same_written : {text other : List ℕ} {terms : List Term} → other ≡ text → Written text terms → Written other terms
-same_written {text} {other} {terms} e w = record { pieces = w.pieces; text_is = w.text_is ∙ sym e; cut = w.cut; short = w.short; terms_are = w.terms_are }
+pub same_written : {form : TextForm} {text other : List ℕ} {terms : List Term} → other ≡ text → IsWritten form text terms → IsWritten form other terms
+same_written e w = record { pieces = w.pieces; text_is = w.text_is ∙ sym e; cut = w.cut; short = w.short; terms_are = w.terms_are }
 
 -- LEXEMES
 
@@ -104,18 +109,18 @@ short_read [] h = refl
 short_read (q ∷ ps) h = ap (λ (b : Bool). not b && list_all (λ (c : Bool). not c) (read_all is_long ps)) h.0 ∙ short_read ps h.1
 
 -- The lexemes of a written text, which are not too long, and their terms.
-pub record Lexed (text : List ℕ) (terms : List Term) : Type 0 where
+pub record Lexed (form : TextForm) (text : List ℕ) (terms : List Term) : Type 0 where
   pub lexemes : List Lexeme
-  pub lexed : AreLexemes form.Core text lexemes
+  pub lexed : AreLexemes form text lexemes
   pub short : position (too_long text) lexemes ≡ None
   pub terms_are : terms_of text lexemes ≡ terms
 
-pub written_lexed : (text : List ℕ) (terms : List Term) → Written text terms → Lexed text terms
-written_lexed text terms w =
-    let P : List ℕ → Type 0 = λ t. Lexed t terms in
+pub written_lexed : (form : TextForm) (text : List ℕ) (terms : List Term) → IsWritten form text terms → Lexed form text terms
+written_lexed form text terms w =
+    let P : List ℕ → Type 0 = λ t. Lexed form t terms in
     subst P w.text_is (record {
       lexemes = spans 0 w.pieces;
-      lexed = joined_reads form.Core w.pieces w.cut;
+      lexed = joined_reads form w.pieces w.cut;
       short = no_position (too_long (joined w.pieces)) (spans 0 w.pieces) (ap (list_all (λ (b : Bool). not b)) (spans_read is_long w.pieces [] 0 refl) ∙ short_read w.pieces w.short);
       terms_are = spans_read says w.pieces [] 0 refl ∙ said-read w.pieces ∙ w.terms_are;
     })

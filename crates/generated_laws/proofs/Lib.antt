@@ -1,0 +1,10 @@
+pub mod Rows
+pub mod Parts
+pub mod PartPhrases
+pub mod PartWords
+pub mod PartNames
+pub mod PartTrees
+pub mod Accepted
+pub mod PartSketches
+pub mod PartStrata
+pub mod Built

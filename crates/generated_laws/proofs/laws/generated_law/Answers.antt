@@ -1,0 +1,9 @@
+use Rattle.generated_laws.proofs.Accepted.{text_read}
+use Rattle.generated_laws.proofs.Built.{small}
+use Rattle.generated_laws.proofs.laws.generated_law.Goals as goal
+
+pub returns-clause-reads : goal.returns-clause-reads
+returns-clause-reads c = text_read
+
+pub returns-clause-built : goal.returns-clause-built
+returns-clause-built c = small

@@ -1,0 +1,55 @@
+-- The surface of a generated program: 32 signals, 8 numbers from 0 to 99, and a par of its parts. This project's own.
+use Rattle.std.specs.Prelude.{ℕ, ◌+◌, pos, refl, List, [], ◌∷◌, ◌++◌, map}
+use Rattle.std.specs.List.{range_with_len}
+use Rattle.token_system.specs.declared.cell.Kind.TheVariants as kind
+use Rattle.token_system.specs.declared.cell.Token.TheVariants as token
+use Rattle.agent_core.specs.declared.node.CellDecl.{CellDecl}
+use Rattle.tdcc_reader.specs.Surfaces.{SurfaceProgram}
+use Rattle.tdcc_reader.specs.Trees.{Ask, Tree, Skip, Tell, Then, Else, Par, Next, Always, When, Watch, listing}
+use Rattle.trace_text.specs.Generated.{signal_name, number_name}
+use Rattle.generated_laws.specs.GeneratedParts.{Part, Follows, Defaults, Delays, Starts, Ends, Bounds, parts}
+
+-- CELLS
+
+abbrev pub signal_cell : ℕ → CellDecl
+signal_cell j = record { name = signal_name j; cell = record { kind = kind.Signal; lo = pos 0; hi = pos 0; lawful = refl } }
+
+abbrev pub number_cell : ℕ → CellDecl
+number_cell i = record { name = number_name i; cell = record { kind = kind.Number; lo = pos 0; hi = pos 99; lawful = refl } }
+
+-- the signal j is cell j, and the number i is cell 32 + i
+unfoldable pub cells : List CellDecl
+cells = map signal_cell (range_with_len 0 32) ++ map number_cell (range_with_len 0 8)
+
+-- FORMS
+
+-- the signal j is on
+abbrev pub on : ℕ → Ask
+on j = (j, token.On) ∷ []
+
+-- the number i is k or more
+abbrev pub at_least : ℕ → ℕ → Ask
+at_least i k = (32 + i, token.AtLeast (pos k)) ∷ []
+
+-- the forms of a part
+abbrev pub part_tree : Part → Tree
+part_tree (Follows g j) = Always (Then (on g) (Tell (on j)))
+part_tree (Defaults g j) = Always (Else (on g) (Tell (on j)))
+part_tree (Delays g j) = Always (Then (on g) (Next (Tell (on j))))
+part_tree (Starts g j) = When (on g) (Always (Tell (on j)))
+part_tree (Ends g j h) = Watch (Always (Else (on g) (Tell (on j)))) (on h)
+part_tree (Bounds g i k) = Always (Then (on g) (Tell (at_least i k)))
+
+-- the trees in a par that groups to the right
+abbrev pub par_of : List Tree → Tree
+par_of [] = Skip
+par_of (t ∷ []) = t
+par_of (t ∷ u ∷ us) = Par t (par_of (u ∷ us))
+
+-- PROGRAMS
+
+abbrev pub tree : ℕ → Tree
+tree n = par_of (map part_tree (parts n))
+
+abbrev pub surface : ℕ → SurfaceProgram
+surface n = record { cells = cells; declared = 40; forms = listing 0 (tree n) }

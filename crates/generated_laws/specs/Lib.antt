@@ -1,0 +1,3 @@
+pub mod GeneratedParts
+pub mod GeneratedSurfaces
+pub mod GeneratedTables
