@@ -2,12 +2,15 @@
 use Rattle.std.proofs.Common.{◌≡◌, ℕ, ◌<◌, ◌≤◌, List, length, sym, ap, ◌∙◌, subst, arith, ◌⊎◌, inl, inr, Ok, Err}
 use Rattle.std.specs.Prelude.{Result}
 use Rattle.std.proofs.lemmas.List.{length-map}
+use Rattle.std.proofs.lemmas.Bool.{cases_lt}
 use Rattle.token_system.specs.Stores.{Valuation}
 use Rattle.agent_core.specs.declared.node.Closure.{Closure}
 use Rattle.agent_core.specs.Programs.{CoreProgram}
 use Rattle.agent_core.specs.Stores.{IsInput}
 use Rattle.agent_core.specs.Leaves as core
+use Rattle.agent_core.specs.Outputs.{IsOutput}
 use Rattle.agent_core.specs.RootOutputs.{IsOutputOf}
+use Rattle.agent_laws.proofs.ProgramOutputs.{output-of_roots}
 use Rattle.agent_laws.specs.Laws.{AreClosures, ExactlyOne, RootsHaveOneOutput, RootsAreClosures}
 use Rattle.instant_net.specs.Nets.{Flat}
 use Rattle.instant_net.specs.Programs.{leaf_named, root_leaves}
@@ -15,7 +18,7 @@ use Rattle.instant_net.specs.Opened.{IsNetOf}
 use Rattle.instant_net.specs.Outputs as net
 use Rattle.instant_net.specs.Laws.{NetsAreStratified, NetsHaveRootOutputs}
 use Rattle.residuals.specs.RootLists.{listed}
-use Rattle.run_book.specs.Books.{BookView, IsBook}
+use Rattle.run_book.specs.Books.{BookView, IsBook, Keeps}
 use Rattle.settle.specs.Ways.{IsOnWay}
 use Rattle.tdcc_tool.specs.Steps.{count_now}
 
@@ -28,15 +31,11 @@ count-leaves : (b : BookView) → length (root_leaves b.program (listed b.roots)
 count-leaves b = length-map (core.leaves b.program (listed b.roots) (length b.ins)) (leaf_named b.program)
 
 -- a call that refuses more leaves than the limit, and does not refuse, has no more
-pub few-leaves : {T E : Type 0} (r : Result T E) (x : T) (e : E) (n : ℕ) → r ≡ Ok x → (65536 < n → r ≡ Err e) → n ≤ 65536
-few-leaves {T} {E} r x e n is refuses = go (split n)
-  where
-    split : (k : ℕ) → (k ≤ 65536) ⊎ (65536 < k)
-    split k = grind arith
-
-    go : (n ≤ 65536) ⊎ (65536 < n) → n ≤ 65536
-    go (inl le) = le
-    go (inr lt) = absurd (let both : Ok x ≡ Err e = sym is ∙ refuses lt in cc)
+pub few-leaves : {T E : Type 0} (r : Result T E) (x : T) (e : E) (n limit : ℕ) → r ≡ Ok x → (limit < n → r ≡ Err e) → n ≤ limit
+few-leaves {T} {E} r x e n limit is refuses = elim (cases_lt limit n) [
+  | inl over ↦ absurd (let both : Ok x ≡ Err e = sym is ∙ refuses over in cc)
+  | inr within ↦ within
+]
 
 -- what is counted over what the readers of a book answer is the book's count
 pub count-of-book : (b : BookView) (p : CoreProgram) (rs : List Closure) (t : ℕ) → p ≡ b.program → rs ≡ listed b.roots → t ≡ length b.ins → length (root_leaves p rs t) ≡ count_now b
@@ -78,3 +77,11 @@ module _ (b : BookView) (is : IsBook b) (i : Valuation) (input : IsInput b.progr
       } in
       let ends : after ≡ output = settled i output (stratified b.program b.levels (listed b.roots) (length b.ins) flat of is.stratified) net_output (subst (IsOnWay flat i output 0) (sym same) way) in
       subst (net.IsOutput flat i) (sym ends) net_output
+
+  -- and that is the output of the instant after those of the run that the book keeps
+  pub output-of-run : (v : Valuation) → net.IsOutput flat i v → (full : List Valuation) → Keeps b full → IsOutput b.program full i v
+  output-of-run v is-output full keeps =
+      let of-roots : IsOutputOf b.program (listed b.roots) (length b.ins) i v = (outs b.program b.levels (listed b.roots) (length b.ins) flat of i v input).0 is-output in
+      output-of_roots b.program is.program full i v
+      (subst (λ (rs : List Closure). IsOutputOf b.program rs (length full) i v) keeps.roots.all
+      (subst (λ (t : ℕ). IsOutputOf b.program (listed b.roots) t i v) (sym keeps.run.whole) of-roots))

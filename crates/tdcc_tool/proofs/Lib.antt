@@ -1,8 +1,15 @@
 pub mod AcceptedPrograms
+pub mod CaseAnswers
+pub mod Commands
+pub mod Counting
+pub mod CourseSteps
 pub mod DeclaredLines
 pub mod InstantNets
 pub mod RunAnswers
 pub mod RunSteps
+pub mod SameWorkers
+pub mod TextAnswers
 pub mod Texts
 pub mod OneAnswer
 pub mod WholeRuns
+pub mod Writings

@@ -1,6 +1,6 @@
 -- Two answers to the same words and bytes are one.
-use Rattle.std.proofs.Common.{◌≡◌, ℕ, List, [], ◌∷◌, ◌++◌, refl, sym, ap, ◌∙◌, subst, inl, inr}
-use Rattle.std.specs.Prelude.{String}
+use Rattle.std.proofs.Common.{◌≡◌, ℕ, suc, ◌<◌, ◌≤◌, List, [], ◌∷◌, ◌++◌, length, map, arith, refl, sym, ap, ◌∙◌, subst, inl, inr}
+use Rattle.std.specs.Prelude.{String, string_bytes, slice_index}
 use Rattle.std.specs.declared.alloc.Global.{Global}
 use Rattle.tdcc_base.specs.declared.status.Status.{Status}
 use Rattle.tdcc_base.specs.Texts.{text_of, trace_of}
@@ -10,11 +10,17 @@ use Rattle.agent_core.specs.Facts.{IsProgram}
 use Rattle.agent_core.specs.Strata.{Edge, Each, IsFirstCase, edges, Reaches}
 use Rattle.agent_laws.proofs.ProgramOutputs.{has_output, one_output}
 use Rattle.agent_laws.proofs.Runs.{has_run, one_run}
-use Rattle.tdcc_tool.specs.declared.command.Command.{Command}
-use Rattle.tdcc_tool.specs.declared.command.Command.TheVariants as commands
+use Rattle.command_words.specs.declared.command.Command.{Command}
+use Rattle.command_words.specs.declared.settings.Limits.{Limits}
+use Rattle.command_words.proofs.CommandWords.{one_command as one_called}
+use Rattle.tdcc_tool.specs.declared.task.Task.{Task}
+use Rattle.tdcc_tool.specs.declared.task.Task.TheVariants as tasks
+use Rattle.tdcc_tool.specs.declared.writing.Writing.{Writing}
+use Rattle.tdcc_tool.specs.Checks.{CheckAnswer, check_text}
+use Rattle.tdcc_tool.specs.Tasks.{task_of, input_of}
 use Rattle.tdcc_tool.specs.Messages.{program_line, strata_line}
 use Rattle.tdcc_tool.specs.RefusedCases.{IsRefusedCase}
-use Rattle.tdcc_tool.specs.Answers.{ProgramAnswer, CoreAnswer, AnswersOf, AnswersBy, IsCommand, word_of, HaveOneAnswer}
+use Rattle.tdcc_tool.specs.Answers.{CaseAnswer, ProgramAnswer, CoreAnswer, AnswersOf, AnswersTo, AnswersBy, IsCommand, HaveOneAnswer}
 use Rattle.tdcc_tool.specs.Laws.{AcceptedHaveOneOutput, AcceptedHaveOneRun}
 use Rattle.tdcc_tool.proofs.AcceptedPrograms.{accepted_program, built_program, one_built, one_text_fault, built_no_fault}
 use Rattle.tdcc_tool.proofs.RunAnswers.{one_run_answer}
@@ -45,45 +51,63 @@ one_refused_line p g t n g' t' n' a b =
 abbrev pub AreSame : Status → Status → List ℕ → List ℕ → List ℕ → List ℕ → Type 0
 AreSame s s' o o' e e' = (s ≡ s') × (o ≡ o') × (e ≡ e')
 
--- the answer of a program to its lines is one
-one_program_answer : (p : CoreProgram) (lines : List (List ℕ)) (s s' : Status) (o o' e e' : List ℕ) → IsProgram p → ProgramAnswer p lines s o e → ProgramAnswer p lines s' o' e' → AreSame s s' o o' e e'
-one_program_answer p lines s s' o o' e e' is (inl x) (inl y) =
+one_case_answer : (p : CoreProgram) (s s' : Status) (o o' e e' : List ℕ) → CaseAnswer p s o e → CaseAnswer p s' o' e' → AreSame s s' o o' e e'
+one_case_answer p s s' o o' e e' x y =
     (x.is ∙ sym y.is, x.nothing ∙ sym y.nothing, x.line ∙ one_refused_line p x.guard x.told x.node y.guard y.told y.node x.case y.case ∙ sym y.line)
-one_program_answer p lines s s' o o' e e' is (inl x) (inr (table, fits, y)) = absurd (x.case.none table fits)
-one_program_answer p lines s s' o o' e e' is (inr (table, fits, x)) (inl y) = absurd (y.case.none table fits)
-one_program_answer p lines s s' o o' e e' is (inr (table, fits, x)) (inr (table', fits', y)) = one_run_answer p is table fits lines s s' o o' e e' x y
+
+-- the answer of a program to its lines is one
+one_program_answer : (p : CoreProgram) (writing : Writing) (limits : Limits) (lines : List (List ℕ)) (s s' : Status) (o o' e e' : List ℕ) → IsProgram p → ProgramAnswer p writing limits lines s o e → ProgramAnswer p writing limits lines s' o' e' → AreSame s s' o o' e e'
+one_program_answer p writing limits lines s s' o o' e e' is (inl x) (inl y) = one_case_answer p s s' o o' e e' x y
+one_program_answer p writing limits lines s s' o o' e e' is (inl x) (inr (table, fits, y)) = absurd (x.case.none table fits)
+one_program_answer p writing limits lines s s' o o' e e' is (inr (table, fits, x)) (inl y) = absurd (y.case.none table fits)
+one_program_answer p writing limits lines s s' o o' e e' is (inr (table, fits, x)) (inr (table', fits', y)) = one_run_answer p is table fits writing limits lines s s' o o' e e' x y
 
 one_core_answer : (p : CoreProgram) (s s' : Status) (o o' e e' : List ℕ) → CoreAnswer p s o e → CoreAnswer p s' o' e' → AreSame s s' o o' e e'
 one_core_answer p s s' o o' e e' x y = (x.is ∙ sym y.is, x.written ∙ sym y.written, x.nothing ∙ sym y.nothing)
 
-one_answer_of : (command : Command) (p : CoreProgram) (bytes : List ℕ) (s s' : Status) (o o' e e' : List ℕ) → IsProgram p → AnswersOf command p bytes s o e → AnswersOf command p bytes s' o' e' → AreSame s s' o o' e e'
-one_answer_of commands.Run p bytes s s' o o' e e' is x y = one_program_answer p (lines_of (trace_of bytes)) s s' o o' e e' is x y
-one_answer_of commands.Core p bytes s s' o o' e e' is x y = one_core_answer p s s' o o' e e' x y
+-- there is one least table
+same_list : (xs ys : List ℕ) → ((n : ℕ) → n < length xs → slice_index xs n ≤ slice_index ys n) → ((n : ℕ) → n < length xs → slice_index ys n ≤ slice_index xs n) → length xs ≡ length ys → xs ≡ ys
+same_list [] [] low high long = refl
+same_list [] (y ∷ ys) low high long = absurd (cc)
+same_list (x ∷ xs) [] low high long = absurd (cc)
+same_list (x ∷ xs) (y ∷ ys) low high long =
+    let a = low 0 (omega arith) in
+    let b = high 0 (omega arith) in
+    let head : x ≡ y = omega arith in
+    ap (λ (k : ℕ). k ∷ xs) head ∙ ap (λ (ks : List ℕ). y ∷ ks) (same_list xs ys (λ n lt. low (suc n) (omega arith)) (λ n lt. high (suc n) (omega arith)) (let h : length xs ≡ length ys = omega arith in h))
 
--- the answer of a command is one
-pub one_answer_by : (command : Command) (bytes : List ℕ) (s s' : Status) (o o' e e' : List ℕ) → AnswersBy command bytes s o e → AnswersBy command bytes s' o' e' → AreSame s s' o o' e e'
-one_answer_by command bytes s s' o o' e e' (inl x) (inl y) =
+one_check_answer : (p : CoreProgram) (s s' : Status) (o o' e e' : List ℕ) → CheckAnswer p s o e → CheckAnswer p s' o' e' → AreSame s s' o o' e e'
+one_check_answer p s s' o o' e e' x y =
+    let long = x.stratified.long in
+    let tables : x.table ≡ y.table = same_list x.table y.table (λ n lt. x.least y.table y.stratified n (omega arith)) (λ n lt. y.least x.table x.stratified n (omega arith)) (x.stratified.long ∙ sym y.stratified.long) in
+    (x.is ∙ sym y.is, x.written ∙ ap (check_text p) tables ∙ sym y.written, x.nothing ∙ sym y.nothing)
+
+one_answer_of : (task : Task) (p : CoreProgram) (bytes : List ℕ) (s s' : Status) (o o' e e' : List ℕ) → IsProgram p → AnswersOf task p bytes s o e → AnswersOf task p bytes s' o' e' → AreSame s s' o o' e e'
+one_answer_of (tasks.Run writing limits) p bytes s s' o o' e e' is x y = one_program_answer p writing limits (lines_of (trace_of bytes)) s s' o o' e e' is x y
+one_answer_of tasks.Check p bytes s s' o o' e e' is (inl x) (inl y) = one_case_answer p s s' o o' e e' x y
+one_answer_of tasks.Check p bytes s s' o o' e e' is (inl x) (inr y) = absurd (x.case.none y.table y.stratified)
+one_answer_of tasks.Check p bytes s s' o o' e e' is (inr x) (inl y) = absurd (y.case.none x.table x.stratified)
+one_answer_of tasks.Check p bytes s s' o o' e e' is (inr x) (inr y) = one_check_answer p s s' o o' e e' x y
+one_answer_of tasks.Core p bytes s s' o o' e e' is x y = one_core_answer p s s' o o' e e' x y
+
+-- the answer of a task is one
+one_answer_to : (task : Task) (bytes : List ℕ) (s s' : Status) (o o' e e' : List ℕ) → AnswersTo task bytes s o e → AnswersTo task bytes s' o' e' → AreSame s s' o o' e e'
+one_answer_to task bytes s s' o o' e e' (inl x) (inl y) =
     (x.is ∙ sym y.is, x.nothing ∙ sym y.nothing, x.told ∙ ap program_line (one_text_fault (text_of bytes) x.fault y.fault x.has y.has) ∙ sym y.told)
-one_answer_by command bytes s s' o o' e e' (inl x) (inr (p, built, y)) = absurd (built_no_fault (text_of bytes) p x.fault built x.has)
-one_answer_by command bytes s s' o o' e e' (inr (p, built, x)) (inl y) = absurd (built_no_fault (text_of bytes) p y.fault built y.has)
-one_answer_by command bytes s s' o o' e e' (inr (p, built, x)) (inr (q, built', y)) =
+one_answer_to task bytes s s' o o' e e' (inl x) (inr (p, built, y)) = absurd (built_no_fault (text_of bytes) p x.fault built x.has)
+one_answer_to task bytes s s' o o' e e' (inr (p, built, x)) (inl y) = absurd (built_no_fault (text_of bytes) p y.fault built y.has)
+one_answer_to task bytes s s' o o' e e' (inr (p, built, x)) (inr (q, built', y)) =
     let same : q ≡ p = one_built (text_of bytes) q p built' built in
-    one_answer_of command p bytes s s' o o' e e' (built_program (text_of bytes) p built) x (subst (λ (r : CoreProgram). AnswersOf command r bytes s' o' e') same y)
+    one_answer_of task p bytes s s' o o' e e' (built_program (text_of bytes) p built) x (subst (λ (r : CoreProgram). AnswersOf task r bytes s' o' e') same y)
 
 -- words are those of one command
-words_differ : (words : List (String Global)) → IsCommand commands.Run words → IsCommand commands.Core words → ⊥
-words_differ words x y = let same : word_of commands.Run ∷ [] ≡ word_of commands.Core ∷ [] = sym x ∙ y in absurd (cc)
-
 pub one_command : (words : List (String Global)) (a b : Command) → IsCommand a words → IsCommand b words → a ≡ b
-one_command words commands.Run commands.Run x y = refl
-one_command words commands.Core commands.Core x y = refl
-one_command words commands.Run commands.Core x y = absurd (words_differ words x y)
-one_command words commands.Core commands.Run x y = absurd (words_differ words y x)
+one_command words a b x y = one_called (map string_bytes words) a b x y
 
 -- the answer is one
 pub one_answer : (words : List (String Global)) (bytes : List ℕ) → HaveOneAnswer words bytes
 one_answer words bytes s s' o o' e e' (inl (a, x, answer)) (inl (b, y, other)) =
-    one_answer_by a bytes s s' o o' e e' answer (subst (λ (c : Command). AnswersBy c bytes s' o' e') (one_command words b a y x) other)
+    one_answer_to (task_of a) (input_of a bytes) s s' o o' e e' answer (subst (λ (c : Command). AnswersBy c bytes s' o' e') (one_command words b a y x) other)
 one_answer words bytes s s' o o' e e' (inl (a, x, answer)) (inr y) = absurd (y.none a x)
 one_answer words bytes s s' o o' e e' (inr x) (inl (b, y, answer)) = absurd (x.none b y)
 one_answer words bytes s s' o o' e e' (inr x) (inr y) = (x.is ∙ sym y.is, x.nothing ∙ sym y.nothing, x.told ∙ sym y.told)

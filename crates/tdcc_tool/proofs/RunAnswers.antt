@@ -1,24 +1,32 @@
 -- Two answers of a program to the same trace are one: the run of the shorter is a front of the longer's, and ends where that goes on.
-use Rattle.std.proofs.Common.{◌≡◌, ℕ, zero, suc, ◌<◌, ◌≤◌, List, [], ◌∷◌, length, take, Some, refl, sym, ap, ◌∙◌, subst, arith, ◌⊎◌, inl, inr}
+use Rattle.std.proofs.Common.{◌≡◌, ℕ, zero, suc, ◌<◌, ◌≤◌, List, [], ◌∷◌, ◌++◌, length, take, drop, get_or, Some, refl, sym, ap, ◌∙◌, subst, arith, ◌⊎◌, inl, inr}
 use Rattle.std.specs.Prelude.{slice_get}
-use Rattle.std.proofs.lemmas.List.{length-take-le, take_all}
+use Rattle.std.specs.FinMap.{empty}
+use Rattle.std.proofs.lemmas.List.{length-take-le, take_all, take-append-drop}
+use Rattle.std.proofs.lemmas.Option.{slice_get-get_or}
+use Rattle.std.proofs.Math.Seq.{take-suc}
 use Rattle.tdcc_base.specs.declared.status.Status.{Status}
 use Rattle.token_system.specs.Stores.{Valuation}
 use Rattle.agent_core.specs.Programs.{CoreProgram}
 use Rattle.agent_core.specs.Facts.{IsProgram}
 use Rattle.agent_core.specs.Outputs.{IsOutput, IsRun}
 use Rattle.agent_core.specs.Strata.{Stratifies}
+use Rattle.agent_laws.proofs.ProgramOutputs.{one_output}
 use Rattle.agent_laws.proofs.Runs.{one_run}
-use Rattle.tdcc_tool.specs.declared.answer.End.{End}
-use Rattle.tdcc_tool.specs.declared.answer.End.TheVariants as ends
+use Rattle.tdcc_tool.specs.declared.end.End.{End}
+use Rattle.tdcc_tool.specs.declared.end.End.TheVariants as ends
 use Rattle.trace_text.specs.declared.fault.LineFault.{LineFault}
 use Rattle.trace_text.specs.declared.fault.LineFault.TheVariants as faults
 use Rattle.trace_text.specs.Inputs.{GivesInput}
 use Rattle.trace_text.specs.Refusals.{RefusesLine}
 use Rattle.trace_text.proofs.GivenInputs.{one_input}
 use Rattle.trace_text.proofs.Refused.{one_line_fault, given_not_refused}
-use Rattle.tdcc_tool.specs.RunEnds.{leaf_count, IsBadLine, EndsBy, status_of, end_line}
-use Rattle.tdcc_tool.specs.Answers.{GiveInputs, RunAnswer, AreSmall, store_lines}
+use Rattle.command_words.specs.declared.settings.Limits.{Limits}
+use Rattle.tdcc_tool.specs.declared.writing.Writing.{Writing}
+use Rattle.tdcc_tool.specs.RunEnds.{IsBadLine, IsDue, EndsAt, EndsBy, status_of, end_line}
+use Rattle.tdcc_tool.specs.Answers.{GiveInputs, KeepsLimits, RunAnswer}
+use Rattle.tdcc_tool.specs.Writings.{spent, written}
+use Rattle.tdcc_tool.proofs.Writings.{spent-front}
 
 -- FRONTS OF LISTS
 
@@ -61,12 +69,12 @@ module _ (p : CoreProgram) where
             subst (λ (z : List Valuation). IsOutput p z i v) (sym (front-front outs m n (let h : m ≤ n = omega arith in h))) (run.each m i v a.1 b.1);
       }
 
-  -- a line at a place below the number of inputs was read
-  read_at : (lines : List (List ℕ)) (ins : List Valuation) (n : ℕ) (line : List ℕ) → GiveInputs p (take (length ins) lines) ins → n < length ins → slice_get lines n ≡ Some line → (i : Valuation) × GivesInput p line i
+  -- a line at a place below the number of inputs gives the input at that place
+  read_at : (lines : List (List ℕ)) (ins : List Valuation) (n : ℕ) (line : List ℕ) → GiveInputs p (take (length ins) lines) ins → n < length ins → slice_get lines n ≡ Some line → (i : Valuation) × (slice_get ins n ≡ Some i) × GivesInput p line i
   read_at [] [] n line all lt e = absurd (omega arith)
   read_at [] (i ∷ ins) n line all lt e = absurd all
   read_at (l ∷ lines) [] n line all lt e = absurd (omega arith)
-  read_at (l ∷ lines) (i ∷ ins) zero line all lt e = let same : l ≡ line = cc in (i, subst (λ (x : List ℕ). GivesInput p x i) same all.0)
+  read_at (l ∷ lines) (i ∷ ins) zero line all lt e = let same : l ≡ line = cc in (i, refl, subst (λ (x : List ℕ). GivesInput p x i) same all.0)
   read_at (l ∷ lines) (i ∷ ins) (suc n) line all lt e = read_at lines ins n line all.1 (let h : n < length ins = omega arith in h) e
 
   pub within : (lines : List (List ℕ)) (ins : List Valuation) → GiveInputs p (take (length ins) lines) ins → length ins ≤ length lines
@@ -90,55 +98,88 @@ module _ (p : CoreProgram) where
   same_line : (lines : List (List ℕ)) (n : ℕ) (line line' : List ℕ) → slice_get lines n ≡ Some line → slice_get lines n ≡ Some line' → line ≡ line'
   same_line lines n line line' e e' = let h : Some line ≡ Some line' = sym e ∙ e' in cc
 
-  module _ (lines : List (List ℕ)) (outs : List Valuation) where
-    abbrev n : ℕ
-    n = length outs
+  -- a run does not end with a fault of a line that gives an input, nor behind the last instant
+  due_not_bad : (n : ℕ) (line : List ℕ) (fault : LineFault) (input : Valuation) → IsDue p n line input → IsBadLine p n line fault → ⊥
+  due_not_bad n line fault input due bad = not_bad n line fault (input, due.given) bad
 
-    none_there : (line : List ℕ) → length outs ≡ length lines → slice_get lines n ≡ Some line → ⊥
-    none_there line whole at = past_end lines line (subst (λ (k : ℕ). slice_get lines k ≡ Some line) whole at)
+  -- where all lines give inputs, and a run on these keeps the limits, no front of it ends at a line
+  pub front_goes_on : (table : List ℕ) → IsProgram p → Stratifies p table → (limits : Limits) (ins outs : List Valuation) (n : ℕ) (line : List ℕ) (end : End) → IsRun p ins outs → length ins ≤ 65536 → KeepsLimits p limits outs → n < length ins
+      → (i : Valuation) → slice_get ins n ≡ Some i → GivesInput p line i → EndsAt p limits (take n outs) line end → ⊥
+  front_goes_on table is strat limits ins outs n line ends.Whole run few within lt i at given h = h
+  front_goes_on table is strat limits ins outs n line (ends.Line fault) run few within lt i at given h = not_bad (length (take n outs)) line fault (i, given) h
+  front_goes_on table is strat limits ins outs n line ends.Many run few within lt i at given h =
+      let whole = run.whole in
+      let long = length-take-le n outs (let k : n ≤ length outs = omega arith in k) in
+      let many = h.1 in
+      omega arith
+  front_goes_on table is strat limits ins outs n line (ends.Net count) run few within lt i at given h =
+      let whole = run.whole in
+      let fits = within.net n (let k : n < length outs = omega arith in k) in
+      let over = h.2.over in
+      let same = h.2.counted in
+      omega arith
+  front_goes_on table is strat limits ins outs n line (ends.Fuel count) run few within lt i at given (input, due, over) =
+      let whole = run.whole in
+      let there : n < length outs = omega arith in
+      let v : Valuation = get_or outs n empty in
+      let same_input : input ≡ i = one_input p line input i due.given given in
+      let is_output : IsOutput p (take n outs) i v = run.each n i v at (slice_get-get_or outs n empty there) in
+      let same : over.output ≡ v = one_output p table is strat (take n outs) i over.output v (subst (λ (j : Valuation). IsOutput p (take n outs) j over.output) same_input over.is) is_output in
+      let front : take n outs ++ over.output ∷ [] ≡ take (suc n) outs = ap (λ (w : Valuation). take n outs ++ w ∷ []) same ∙ sym (take-suc outs n empty there) in
+      let part = spent-front p (take (suc n) outs) (drop (suc n) outs) in
+      let all = ap (spent p) (take-append-drop (suc n) outs) in
+      let counted = over.counted ∙ ap (spent p) front in
+      let more = over.over in
+      let fuel = within.fuel in
+      omega arith
 
-    one_fault : (f g : LineFault) (line other : List ℕ) → slice_get lines n ≡ Some line → slice_get lines n ≡ Some other → IsBadLine p n line f → IsBadLine p n other g → f ≡ g
-    one_fault f g line other at there bad worse = one_line_fault p line f g bad.says worse.says bad.refused (subst (λ (l : List ℕ). RefusesLine p l g) (same_line lines n other line there at) worse.refused)
+  module _ (table : List ℕ) (is : IsProgram p) (strat : Stratifies p table) (limits : Limits) where
+    -- a run ends in one way at a line
+    same_at : (outs : List Valuation) (line : List ℕ) (e e' : End) → EndsAt p limits outs line e → EndsAt p limits outs line e' → e ≡ e'
+    same_at outs line ends.Whole e' h h' = absurd h
+    same_at outs line e ends.Whole h h' = absurd h'
+    same_at outs line ends.Many ends.Many h h' = refl
+    same_at outs line (ends.Line f) (ends.Line g) h h' = ap ends.Line (one_line_fault p line f g h.says h'.says h.refused h'.refused)
+    same_at outs line (ends.Net c) (ends.Net c') h h' = ap ends.Net (h.2.counted ∙ sym h'.2.counted)
+    same_at outs line (ends.Fuel c) (ends.Fuel c') (i, due, over) (i', due', over') =
+        let inputs : i' ≡ i = one_input p line i' i due'.given due.given in
+        let outputs : over.output ≡ over'.output = one_output p table is strat outs i over.output over'.output over.is (subst (λ (j : Valuation). IsOutput p outs j over'.output) inputs over'.is) in
+        ap ends.Fuel (over.counted ∙ ap (λ (v : Valuation). spent p (outs ++ v ∷ [])) outputs ∙ sym over'.counted)
+    same_at outs line (ends.Line f) ends.Many h h' = absurd (not_many (length outs) line f h'.0 h'.1 h)
+    same_at outs line ends.Many (ends.Line f) h h' = absurd (not_many (length outs) line f h.0 h.1 h')
+    same_at outs line (ends.Line f) (ends.Net c) h h' = absurd (due_not_bad (length outs) line f h'.0 h'.1 h)
+    same_at outs line (ends.Net c) (ends.Line f) h h' = absurd (due_not_bad (length outs) line f h.0 h.1 h')
+    same_at outs line (ends.Line f) (ends.Fuel c) h h' = absurd (due_not_bad (length outs) line f h'.0 h'.1 h)
+    same_at outs line (ends.Fuel c) (ends.Line f) h h' = absurd (due_not_bad (length outs) line f h.0 h.1 h')
+    same_at outs line ends.Many (ends.Net c) h h' = absurd (let few = h'.1.few in let many = h.1 in omega arith)
+    same_at outs line (ends.Net c) ends.Many h h' = absurd (let few = h.1.few in let many = h'.1 in omega arith)
+    same_at outs line ends.Many (ends.Fuel c) h h' = absurd (let few = h'.1.few in let many = h.1 in omega arith)
+    same_at outs line (ends.Fuel c) ends.Many h h' = absurd (let few = h.1.few in let many = h'.1 in omega arith)
+    same_at outs line (ends.Net c) (ends.Fuel c') h h' = absurd (let over = h.2.over in let counted = h.2.counted in let fits = h'.2.fits in omega arith)
+    same_at outs line (ends.Fuel c) (ends.Net c') h h' = absurd (let over = h'.2.over in let counted = h'.2.counted in let fits = h.2.fits in omega arith)
 
-    moved : (P : List ℕ → Type 0) (line other : List ℕ) → slice_get lines n ≡ Some line → slice_get lines n ≡ Some other → P line → P other
-    moved P line other at there h = subst P (same_line lines n line other at there) h
+    -- and in one way at all
+    pub same_end : (lines : List (List ℕ)) (outs : List Valuation) (e e' : End) → EndsBy p limits lines outs e → EndsBy p limits lines outs e' → e ≡ e'
+    same_end lines outs e e' (inl h) (inl h') = h.0 ∙ sym h'.0
+    same_end lines outs e e' (inl h) (inr (line, at, ends)) = absurd (past_end lines line (subst (λ (k : ℕ). slice_get lines k ≡ Some line) h.1 at))
+    same_end lines outs e e' (inr (line, at, ends)) (inl h) = absurd (past_end lines line (subst (λ (k : ℕ). slice_get lines k ≡ Some line) h.1 at))
+    same_end lines outs e e' (inr (line, at, ends)) (inr (line', at', ends')) =
+        same_at outs line e e' ends (subst (λ (l : List ℕ). EndsAt p limits outs l e') (same_line lines (length outs) line' line at' at) ends')
 
-    -- a run ends in one way
-    pub same_end : (e e' : End) → EndsBy p lines outs e → EndsBy p lines outs e' → e ≡ e'
-    same_end ends.Whole ends.Whole h h' = refl
-    same_end ends.Many ends.Many h h' = refl
-    same_end (ends.Line f) (ends.Line g) h h' = ap ends.Line (one_fault f g h.0 h'.0 h.1 h'.1 h.2 h'.2)
-    same_end (ends.Net c) (ends.Net c') h h' = ap ends.Net (h.4 ∙ sym h'.4)
-    same_end ends.Whole (ends.Line f) h h' = absurd (none_there h'.0 h h'.1)
-    same_end ends.Whole ends.Many h h' = absurd (none_there h'.0 h h'.1)
-    same_end ends.Whole (ends.Net c) h h' = absurd (none_there h'.0 h h'.1)
-    same_end (ends.Line f) ends.Whole h h' = absurd (none_there h.0 h' h.1)
-    same_end ends.Many ends.Whole h h' = absurd (none_there h.0 h' h.1)
-    same_end (ends.Net c) ends.Whole h h' = absurd (none_there h.0 h' h.1)
-    same_end (ends.Line f) ends.Many h h' = absurd (not_many n h'.0 f h'.2 h'.3 (moved (λ l. IsBadLine p n l f) h.0 h'.0 h.1 h'.1 h.2))
-    same_end ends.Many (ends.Line f) h h' = absurd (not_many n h.0 f h.2 h.3 (moved (λ l. IsBadLine p n l f) h'.0 h.0 h'.1 h.1 h'.2))
-    same_end (ends.Line f) (ends.Net c) h h' = absurd (not_bad n h'.0 f h'.2 (moved (λ l. IsBadLine p n l f) h.0 h'.0 h.1 h'.1 h.2))
-    same_end (ends.Net c) (ends.Line f) h h' = absurd (not_bad n h.0 f h.2 (moved (λ l. IsBadLine p n l f) h'.0 h.0 h'.1 h.1 h'.2))
-    same_end ends.Many (ends.Net c) h h' = absurd (let few = h'.3 in let many = h.3 in omega arith)
-    same_end (ends.Net c) ends.Many h h' = absurd (let few = h.3 in let many = h'.3 in omega arith)
-
-  -- a run does not end where a longer one goes on
-  goes_past : (lines : List (List ℕ)) (ins outs : List Valuation) (n : ℕ) (e : End) → GiveInputs p (take (length ins) lines) ins → length ins ≤ 65536 → length outs ≡ length ins → AreSmall p outs
-      → n < length ins → EndsBy p lines (take n outs) e → ⊥
-  goes_past lines ins outs n ends.Whole given few whole small lt h =
-      let long = length-take-le n outs (let h : n ≤ length outs = omega (arith, whole) in h) in
-      let w = within lines ins given in omega (arith, long, h, w)
-  goes_past lines ins outs n (ends.Line fault) given few whole small lt h =
-      let long = length-take-le n outs (let k : n ≤ length outs = omega (arith, whole) in k) in
-      not_bad (length (take n outs)) h.0 fault (read_at lines ins n h.0 given lt (subst (λ (k : ℕ). slice_get lines k ≡ Some h.0) long h.1)) h.2
-  goes_past lines ins outs n ends.Many given few whole small lt h =
-      let long = length-take-le n outs (let k : n ≤ length outs = omega (arith, whole) in k) in
-      let many = h.3 in omega (arith, long, many)
-  goes_past lines ins outs n (ends.Net count) given few whole small lt h =
-      let fits = small n (let k : n < length outs = omega (arith, whole) in k) in
-      let over = h.5 in
-      let same = h.4 in
-      omega (arith, fits, over, same)
+    -- a run does not end where a longer one goes on
+    pub goes_past : (lines : List (List ℕ)) (ins outs : List Valuation) (n : ℕ) (e : End) → GiveInputs p (take (length ins) lines) ins → IsRun p ins outs → length ins ≤ 65536 → KeepsLimits p limits outs → n < length ins
+        → EndsBy p limits lines (take n outs) e → ⊥
+    goes_past lines ins outs n e given run few within-limits lt (inl h) =
+        let whole = run.whole in
+        let long = length-take-le n outs (let k : n ≤ length outs = omega arith in k) in
+        let w = within lines ins given in
+        let all = h.1 in
+        omega arith
+    goes_past lines ins outs n e given run few within-limits lt (inr (line, at, ends)) =
+        let whole = run.whole in
+        let long = length-take-le n outs (let k : n ≤ length outs = omega arith in k) in
+        let r = read_at lines ins n line given lt (subst (λ (k : ℕ). slice_get lines k ≡ Some line) long at) in
+        front_goes_on table is strat limits ins outs n line e run few within-limits lt r.0 r.1 r.2 ends
 
   pub same_front : (lines : List (List ℕ)) (a b : List Valuation) → GiveInputs p (take (length a) lines) a → GiveInputs p (take (length b) lines) b → length a ≤ length b → a ≡ take (length a) b
   same_front lines [] b x y le = refl
@@ -147,27 +188,30 @@ module _ (p : CoreProgram) where
   same_front (l ∷ lines) (i ∷ a) (j ∷ b) x y le =
       ap (λ (k : Valuation). k ∷ a) (one_input p l i j x.0 y.0) ∙ ap (λ (ks : List Valuation). j ∷ ks) (same_front lines a b x.1 y.1 (let h : length a ≤ length b = omega arith in h))
 
-  module _ (is : IsProgram p) (table : List ℕ) (strat : Stratifies p table) (lines : List (List ℕ)) where
+  module _ (is : IsProgram p) (table : List ℕ) (strat : Stratifies p table) (writing : Writing) (limits : Limits) (lines : List (List ℕ)) where
+    abbrev IsAnswer : Status → List ℕ → List ℕ → Type 0
+    IsAnswer s o e = RunAnswer p writing limits lines s o e
+
     -- the shorter of two runs is a front of the longer
-    front_outs : (s s' : Status) (o o' e e' : List ℕ) (a : RunAnswer p lines s o e) (b : RunAnswer p lines s' o' e') → length a.ins ≤ length b.ins → a.outs ≡ take (length a.ins) b.outs
+    front_outs : (s s' : Status) (o o' e e' : List ℕ) (a : IsAnswer s o e) (b : IsAnswer s' o' e') → length a.ins ≤ length b.ins → a.outs ≡ take (length a.ins) b.outs
     front_outs s s' o o' e e' a b le =
         let ins = same_front lines a.ins b.ins a.given b.given le in
         one_run p table is strat a.ins a.outs (take (length a.ins) b.outs) a.run
         (subst (λ (xs : List Valuation). IsRun p xs (take (length a.ins) b.outs)) (sym ins) (run-front b.ins b.outs (length a.ins) le b.run))
 
-    not_fewer : (s s' : Status) (o o' e e' : List ℕ) (a : RunAnswer p lines s o e) (b : RunAnswer p lines s' o' e') → length a.ins < length b.ins → ⊥
+    not_fewer : (s s' : Status) (o o' e e' : List ℕ) (a : IsAnswer s o e) (b : IsAnswer s' o' e') → length a.ins < length b.ins → ⊥
     not_fewer s s' o o' e e' a b lt =
         let front = front_outs s s' o o' e e' a b (let h : length a.ins ≤ length b.ins = omega arith in h) in
-        goes_past lines b.ins b.outs (length a.ins) a.end b.given b.few b.run.whole b.small lt (subst (λ (z : List Valuation). EndsBy p lines z a.end) front a.ends)
+        goes_past table is strat limits lines b.ins b.outs (length a.ins) a.end b.given b.run b.few b.within lt (subst (λ (z : List Valuation). EndsBy p limits lines z a.end) front a.ends)
 
     -- a trace has one answer
-    pub one_run_answer : (s s' : Status) (o o' e e' : List ℕ) → RunAnswer p lines s o e → RunAnswer p lines s' o' e' → (s ≡ s') × (o ≡ o') × (e ≡ e')
+    pub one_run_answer : (s s' : Status) (o o' e e' : List ℕ) → IsAnswer s o e → IsAnswer s' o' e' → (s ≡ s') × (o ≡ o') × (e ≡ e')
     one_run_answer s s' o o' e e' a b =
         let count : length a.ins ≡ length b.ins = below_or_same (length a.ins) (length b.ins) (not_fewer s s' o o' e e' a b) (not_fewer s' s o' o e' e b a) in
         let whole = b.run.whole in
         let outs : a.outs ≡ b.outs = front_outs s s' o o' e e' a b (omega (arith, count)) ∙ take_all (length a.ins) b.outs (omega (arith, count, whole)) in
-        let end : a.end ≡ b.end = same_end lines b.outs a.end b.end (subst (λ (z : List Valuation). EndsBy p lines z a.end) outs a.ends) b.ends in (
+        let end : a.end ≡ b.end = same_end table is strat limits lines b.outs a.end b.end (subst (λ (z : List Valuation). EndsBy p limits lines z a.end) outs a.ends) b.ends in (
           a.status_is ∙ ap status_of end ∙ sym b.status_is,
-          a.written ∙ ap (store_lines p) outs ∙ sym b.written,
-          a.told ∙ ap (λ (z : List Valuation). end_line (length z) a.end) outs ∙ ap (end_line (length b.outs)) end ∙ sym b.told,
+          a.told_out ∙ ap (written writing p) outs ∙ sym b.told_out,
+          a.told_err ∙ ap (λ (z : List Valuation). end_line (length z) a.end) outs ∙ ap (end_line (length b.outs)) end ∙ sym b.told_err,
         )

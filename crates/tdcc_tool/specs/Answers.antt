@@ -1,6 +1,9 @@
 -- What the tool answers to its words and the bytes of its source: a status, the bytes for out and the bytes for err. This project's own.
-use Rattle.std.specs.Prelude.{◌≡◌, ◌⊎◌, ℕ, ◌<◌, ◌≤◌, List, [], ◌∷◌, ◌++◌, length, map, flat_map, take, codes, String, string_bytes}
+use Rattle.std.specs.Prelude.{◌≡◌, ◌⊎◌, ℕ, ◌<◌, ◌≤◌, List, [], ◌∷◌, length, map, take, String, string_bytes}
 use Rattle.std.specs.declared.alloc.Global.{Global}
+use Rattle.command_words.specs.declared.command.Command.{Command}
+use Rattle.command_words.specs.declared.settings.Limits.{Limits}
+use Rattle.command_words.specs.Words as words_of
 use Rattle.tdcc_base.specs.declared.status.Status.{Status}
 use Rattle.tdcc_base.specs.declared.status.Status.TheVariants as statuses
 use Rattle.tdcc_base.specs.Lines.{lines_of}
@@ -10,17 +13,20 @@ use Rattle.agent_core.specs.Programs.{CoreProgram}
 use Rattle.agent_core.specs.Outputs.{IsRun}
 use Rattle.agent_core.specs.Strata.{Stratifies}
 use Rattle.core_text.specs.CoreTexts.{core_text}
-use Rattle.tdcc_tool.specs.declared.answer.End.{End}
-use Rattle.tdcc_tool.specs.Messages.{usage_line, program_line, strata_line}
 use Rattle.tdcc_reader.specs.declared.fault.ReadFault.{ReadFault}
-use Rattle.tdcc_tool.specs.declared.command.Command.{Command}
-use Rattle.tdcc_tool.specs.declared.command.Command.TheVariants as commands
+use Rattle.trace_text.specs.Inputs.{GivesInput}
+use Rattle.tdcc_tool.specs.declared.end.End.{End}
+use Rattle.tdcc_tool.specs.declared.task.Task.{Task}
+use Rattle.tdcc_tool.specs.declared.task.Task.TheVariants as tasks
+use Rattle.tdcc_tool.specs.declared.writing.Writing.{Writing}
+use Rattle.tdcc_tool.specs.Messages.{usage_line, program_line, strata_line}
 use Rattle.tdcc_tool.specs.Accepted.{IsBuilt}
 use Rattle.tdcc_tool.specs.TextFaults.{HasFault}
 use Rattle.tdcc_tool.specs.RefusedCases.{IsRefusedCase}
-use Rattle.trace_text.specs.Inputs.{GivesInput}
-use Rattle.trace_text.specs.StoreLines.{store_line}
+use Rattle.tdcc_tool.specs.Writings.{spent, written}
 use Rattle.tdcc_tool.specs.RunEnds.{leaf_count, EndsBy, status_of, end_line}
+use Rattle.tdcc_tool.specs.Checks.{CheckAnswer}
+use Rattle.tdcc_tool.specs.Tasks.{task_of, input_of}
 
 -- each of these lines gives the input at its place
 abbrev pub GiveInputs : CoreProgram → List (List ℕ) → List Valuation → Type 0
@@ -29,27 +35,24 @@ GiveInputs p (line ∷ lines) (i ∷ ins) = GivesInput p line i × GiveInputs p 
 GiveInputs p [] (i ∷ ins) = ⊥
 GiveInputs p (line ∷ lines) [] = ⊥
 
--- each instant that has one of these outputs has at most as many leaves as an instant may have
-abbrev pub AreSmall : CoreProgram → List Valuation → Type 0
-AreSmall p outs = (n : ℕ) → n < length outs → leaf_count p (take n outs) ≤ 65536
+-- the instants that have these outputs keep the limits: none has too many leaves, and not too many agents ran in all of them
+pub record KeepsLimits (p : CoreProgram) (limits : Limits) (outs : List Valuation) : Type 0 where
+  pub net : (n : ℕ) → n < length outs → leaf_count p (take n outs) ≤ limits.net
+  pub fuel : spent p outs ≤ limits.fuel
 
--- the lines of some stores
-abbrev pub store_lines : CoreProgram → List Valuation → List ℕ
-store_lines p outs = flat_map (λ v. store_line p v ++ 10 ∷ []) outs
-
--- The answer of a program to the lines of a trace: the store lines of the run on the inputs of the lines, up to the end of the trace, to the first line that stops it, or to the first instant that has too many leaves.
-pub record RunAnswer (p : CoreProgram) (lines : List (List ℕ)) (status : Status) (out err : List ℕ) : Type 0 where
+-- The answer of a program to the lines of a trace: what is written of the run on the inputs of the lines, up to the end of the trace, to the first line that stops it, or to the first instant that goes past a limit.
+pub record RunAnswer (p : CoreProgram) (writing : Writing) (limits : Limits) (lines : List (List ℕ)) (status : Status) (out err : List ℕ) : Type 0 where
   pub ins : List Valuation
   pub outs : List Valuation
   pub few : length ins ≤ 65536
   pub given : GiveInputs p (take (length ins) lines) ins
   pub run : IsRun p ins outs
-  pub small : AreSmall p outs
-  pub written : out ≡ store_lines p outs
+  pub within : KeepsLimits p limits outs
+  pub told_out : out ≡ written writing p outs
   pub end : End
-  pub ends : EndsBy p lines outs end
+  pub ends : EndsBy p limits lines outs end
   pub status_is : status ≡ status_of end
-  pub told : err ≡ end_line (length outs) end
+  pub told_err : err ≡ end_line (length outs) end
 
 -- the answer to a text that has a fault
 pub record FaultAnswer (text : List ℕ) (status : Status) (out err : List ℕ) : Type 0 where
@@ -70,8 +73,9 @@ pub record CaseAnswer (p : CoreProgram) (status : Status) (out err : List ℕ) :
   pub line : err ≡ strata_line p guard told node
 
 -- the answer of a program to the lines of a trace: it is not stratified, or runs
-abbrev pub ProgramAnswer : CoreProgram → List (List ℕ) → Status → List ℕ → List ℕ → Type 0
-ProgramAnswer p lines status out err = CaseAnswer p status out err ⊎ ((table : List ℕ) × Stratifies p table × RunAnswer p lines status out err)
+abbrev pub ProgramAnswer : CoreProgram → Writing → Limits → List (List ℕ) → Status → List ℕ → List ℕ → Type 0
+ProgramAnswer p writing limits lines status out err =
+    CaseAnswer p status out err ⊎ ((table : List ℕ) × Stratifies p table × RunAnswer p writing limits lines status out err)
 
 -- the answer that is the core text of a program
 pub record CoreAnswer (p : CoreProgram) (status : Status) (out err : List ℕ) : Type 0 where
@@ -79,29 +83,29 @@ pub record CoreAnswer (p : CoreProgram) (status : Status) (out err : List ℕ) :
   pub written : out ≡ core_text p
   pub nothing : err ≡ []
 
--- what a command answers of a program: `run` with the trace behind its text, and `core` whether it is stratified or not
-abbrev pub AnswersOf : Command → CoreProgram → List ℕ → Status → List ℕ → List ℕ → Type 0
-AnswersOf commands.Run p bytes status out err = ProgramAnswer p (lines_of (trace_of bytes)) status out err
-AnswersOf commands.Core p bytes status out err = CoreAnswer p status out err
+-- what a task answers of a program: a run with the trace behind its text; its core text is written whether it is stratified or not
+abbrev pub AnswersOf : Task → CoreProgram → List ℕ → Status → List ℕ → List ℕ → Type 0
+AnswersOf (tasks.Run writing limits) p bytes status out err = ProgramAnswer p writing limits (lines_of (trace_of bytes)) status out err
+AnswersOf tasks.Check p bytes status out err = CaseAnswer p status out err ⊎ CheckAnswer p status out err
+AnswersOf tasks.Core p bytes status out err = CoreAnswer p status out err
 
--- the answer of a command to the bytes: a program text, and then the trace
-abbrev pub AnswersBy : Command → List ℕ → Status → List ℕ → List ℕ → Type 0
-AnswersBy command bytes status out err =
+-- what a task answers to the bytes: a program text, and then the trace
+abbrev pub AnswersTo : Task → List ℕ → Status → List ℕ → List ℕ → Type 0
+AnswersTo task bytes status out err =
     FaultAnswer (text_of bytes) status out err
-    ⊎ ((p : CoreProgram) × IsBuilt (text_of bytes) p × AnswersOf command p bytes status out err)
+    ⊎ ((p : CoreProgram) × IsBuilt (text_of bytes) p × AnswersOf task p bytes status out err)
 
--- the word of a command
-abbrev pub word_of : Command → List ℕ
-word_of commands.Run = codes "run"
-word_of commands.Core = codes "core"
+-- what a command answers, where these are the bytes of the source
+abbrev pub AnswersBy : Command → List ℕ → Status → List ℕ → List ℕ → Type 0
+AnswersBy command bytes status out err = AnswersTo (task_of command) (input_of command bytes) status out err
 
 -- the words are those of the command
 abbrev pub IsCommand : Command → List (String Global) → Type 0
-IsCommand command words = map string_bytes words ≡ word_of command ∷ []
+IsCommand command words = words_of.IsCommand command (map string_bytes words)
 
 -- the words are those of none of the commands
 abbrev pub IsNoCommand : List (String Global) → Type 0
-IsNoCommand words = (command : Command) → IsCommand command words → ⊥
+IsNoCommand words = words_of.IsNoCommand (map string_bytes words)
 
 -- the answer to words that are none of the tool's
 pub record UsageAnswer (words : List (String Global)) (status : Status) (out err : List ℕ) : Type 0 where

@@ -1,5 +1,5 @@
--- When a run goes to its end. This project's own.
-use Rattle.std.specs.Prelude.{ℕ, ◌≤◌, List, length, String, Option, Some, None}
+-- When a run, or its report, goes to its end. This project's own.
+use Rattle.std.specs.Prelude.{◌⊎◌, ℕ, ◌≤◌, List, length, String, Option, Some, None}
 use Rattle.std.specs.declared.alloc.Global.{Global}
 use Rattle.tdcc_base.specs.Lines.{lines_of}
 use Rattle.tdcc_base.specs.Texts.{text_of, trace_of}
@@ -8,13 +8,19 @@ use Rattle.tdcc_base.specs.declared.status.Status.TheVariants as statuses
 use Rattle.token_system.specs.Stores.{Valuation}
 use Rattle.agent_core.specs.Programs.{CoreProgram}
 use Rattle.agent_core.specs.Outputs.{IsRun}
-use Rattle.tdcc_tool.specs.declared.command.Command.TheVariants as commands
+use Rattle.command_words.specs.declared.command.Command.TheVariants.{Run, Report}
+use Rattle.command_words.specs.declared.settings.Limits.{Limits}
 use Rattle.tdcc_tool.specs.Accepted.{Accepts}
-use Rattle.tdcc_tool.specs.Answers.{GiveInputs, AreSmall, IsCommand}
+use Rattle.tdcc_tool.specs.Answers.{GiveInputs, KeepsLimits, IsCommand}
 
--- the words are those of `run`, the text is a program that runs, each line of the trace, of which there are not too many, gives an input, and no instant of the run on these has too many leaves
+-- the words are those of a run or a report with these limits
+abbrev pub CallsRun : Limits → List (String Global) → Type 0
+CallsRun limits words = IsCommand (Run limits) words ⊎ IsCommand (Report limits) words
+
+-- the words are those of a run, the text is a program that runs, each line of the trace, of which there are not too many, gives an input, and the run on these keeps the limits
 pub record IsRunnable (words : List (String Global)) (bytes : List ℕ) : Type 0 where
-  pub command : IsCommand commands.Run words
+  pub limits : Limits
+  pub calls : CallsRun limits words
   pub program : CoreProgram
   pub accepted : Accepts (text_of bytes) program
   pub inputs : List Valuation
@@ -22,7 +28,7 @@ pub record IsRunnable (words : List (String Global)) (bytes : List ℕ) : Type 0
   pub given : GiveInputs program (lines_of (trace_of bytes)) inputs
   pub outputs : List Valuation
   pub run : IsRun program inputs outputs
-  pub small : AreSmall program outputs
+  pub within : KeepsLimits program limits outputs
 
 -- the run went to its end, or memory ran out, or the source or the sink failed for this reason
 abbrev pub EndsWhole : Status → Type 0 → Type 0 → Type 0

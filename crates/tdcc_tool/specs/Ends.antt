@@ -14,11 +14,11 @@ abbrev pub IsCommandEnd : Status → Type 0
 IsCommandEnd statuses.Ok = Unit {0}
 IsCommandEnd statuses.Program = Unit {0}
 IsCommandEnd statuses.Trace = Unit {0}
+IsCommandEnd statuses.Fuel = Unit {0}
 IsCommandEnd statuses.Net = Unit {0}
 IsCommandEnd _ = ⊥
 
 -- what the tool may end with
 abbrev pub IsToolStatus : Status → Type 0
 IsToolStatus statuses.No = ⊥
-IsToolStatus statuses.Fuel = ⊥
 IsToolStatus _ = Unit {0}

@@ -1,11 +1,15 @@
 -- What is proved of the definitions themselves.
-use Rattle.std.specs.Prelude.{ℕ, List, All}
+use Rattle.std.specs.Prelude.{◌≡◌, ◌↔◌, ℕ, List, ◌++◌, All, map, String, string_bytes}
+use Rattle.std.specs.declared.alloc.Global.{Global}
+use Rattle.command_words.specs.Words.{SetsWorkers}
+use Rattle.tdcc_base.specs.declared.status.Status.{Status}
 use Rattle.token_system.specs.Stores.{Valuation}
 use Rattle.agent_core.specs.Programs.{CoreProgram}
 use Rattle.agent_core.specs.Stores.{IsStore}
 use Rattle.agent_core.specs.Outputs.{IsOutput, IsRun}
 use Rattle.agent_laws.specs.Laws.{ExactlyOne}
 use Rattle.tdcc_tool.specs.Accepted.{Accepts}
+use Rattle.tdcc_tool.specs.Answers.{Answers}
 
 -- the program of an accepted text has exactly one output, after any closed stores, on each of its stores
 abbrev pub AcceptedHaveOneOutput : List ℕ → Type 0
@@ -14,3 +18,18 @@ AcceptedHaveOneOutput text = (p : CoreProgram) → Accepts text p → (closed : 
 -- and exactly one run on inputs
 abbrev pub AcceptedHaveOneRun : List ℕ → Type 0
 AcceptedHaveOneRun text = (p : CoreProgram) → Accepts text p → (ins : List Valuation) → All (IsStore p) ins → ExactlyOne (IsRun p ins)
+
+-- the words differ in the number of workers alone
+pub record DifferInWorkers (words others : List (String Global)) : Type 0 where
+  pub front : List (List ℕ)
+  pub more : List (List ℕ)
+  pub workers : List (List ℕ)
+  pub other_workers : List (List ℕ)
+  pub sets : SetsWorkers workers
+  pub others_set : SetsWorkers other_workers
+  pub words_are : map string_bytes words ≡ front ++ workers ++ more
+  pub others_are : map string_bytes others ≡ front ++ other_workers ++ more
+
+-- whatever the bytes, they have the same answers
+abbrev pub HaveSameAnswers : List (String Global) → List (String Global) → Type 0
+HaveSameAnswers words others = (bytes : List ℕ) (s : Status) (o e : List ℕ) → Answers words bytes s o e ↔ Answers others bytes s o e

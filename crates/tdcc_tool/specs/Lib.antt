@@ -2,7 +2,10 @@ pub mod Messages
 pub mod Accepted
 pub mod TextFaults
 pub mod RefusedCases
+pub mod Writings
 pub mod RunEnds
+pub mod Checks
+pub mod Tasks
 pub mod Answers
 pub mod Cuts
 pub mod Completeness

@@ -68,9 +68,13 @@ trace_line n fault = instant_line n (fault_text fault)
 abbrev pub many_line : ℕ → List ℕ
 many_line n = instant_line n (codes "over 65536 instants")
 
--- instant n has this many leaves, which are more than an instant may have
+-- instant n has this many leaves, which are more than it may have
 abbrev pub net_line : ℕ → ℕ → List ℕ
 net_line n leaves = message (codes "net: instant " ++ decimal n ++ codes ": " ++ decimal leaves ++ codes " leaves")
+
+-- through instant n this many agents ran, which are more than may run
+abbrev pub fuel_line : ℕ → ℕ → List ℕ
+fuel_line n agents = message (codes "fuel: instant " ++ decimal n ++ codes ": " ++ decimal agents ++ codes " agents run")
 
 -- the source failed
 abbrev pub read_line : List ℕ

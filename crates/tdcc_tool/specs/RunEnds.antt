@@ -1,18 +1,21 @@
--- How a run ends: at the end of the trace, at a line that stops it, or at an instant that has more leaves than an instant may have. This project's own.
-use Rattle.std.specs.Prelude.{◌≡◌, ◌≢◌, ◌⊎◌, ℕ, ◌<◌, ◌≤◌, List, [], length, slice_get, Some}
+-- How a run ends: at the end of the trace, at a line that stops it, or at an instant that has more leaves, or by which more agents ran, than the limits allow. This project's own.
+use Rattle.std.specs.Prelude.{◌≡◌, ◌≢◌, ◌⊎◌, ℕ, ◌<◌, ◌≤◌, List, [], ◌∷◌, ◌++◌, length, slice_get, Some}
+use Rattle.command_words.specs.declared.settings.Limits.{Limits}
 use Rattle.tdcc_base.specs.declared.status.Status.{Status}
 use Rattle.tdcc_base.specs.declared.status.Status.TheVariants as statuses
 use Rattle.token_system.specs.Stores.{Valuation}
 use Rattle.agent_core.specs.Programs.{CoreProgram}
 use Rattle.agent_core.specs.Closures.{roots}
 use Rattle.agent_core.specs.Leaves.{leaves}
+use Rattle.agent_core.specs.Outputs.{IsOutput}
 use Rattle.trace_text.specs.declared.fault.LineFault.{LineFault}
 use Rattle.trace_text.specs.declared.fault.LineFault.TheVariants as faults
 use Rattle.trace_text.specs.Inputs.{GivesInput}
 use Rattle.trace_text.specs.Refusals.{RefusesLine}
-use Rattle.tdcc_tool.specs.declared.answer.End.{End}
-use Rattle.tdcc_tool.specs.declared.answer.End.TheVariants as ends
-use Rattle.tdcc_tool.specs.Messages.{trace_line, many_line, net_line}
+use Rattle.tdcc_tool.specs.declared.end.End.{End}
+use Rattle.tdcc_tool.specs.declared.end.End.TheVariants as ends
+use Rattle.tdcc_tool.specs.Messages.{trace_line, many_line, net_line, fuel_line}
+use Rattle.tdcc_tool.specs.Writings.{spent}
 
 -- how many leaves the instant has that follows these outputs
 abbrev pub leaf_count : CoreProgram → List Valuation → ℕ
@@ -24,19 +27,42 @@ pub record IsBadLine (p : CoreProgram) (n : ℕ) (line : List ℕ) (fault : Line
   pub says : fault ≢ faults.Memory
   pub due : (n < 65536) ⊎ (fault ≡ faults.LineTooLong)
 
--- these lines end a run so after the instants that have these outputs
-abbrev pub EndsBy : CoreProgram → List (List ℕ) → List Valuation → End → Type 0
-EndsBy p lines outs ends.Whole = length outs ≡ length lines
-EndsBy p lines outs (ends.Line fault) = (line : List ℕ) × (slice_get lines (length outs) ≡ Some line) × IsBadLine p (length outs) line fault
-EndsBy p lines outs ends.Many = (line : List ℕ) × (slice_get lines (length outs) ≡ Some line) × (length line ≤ 32768) × (length outs ≡ 65536)
-EndsBy p lines outs (ends.Net count) =
-    (line : List ℕ) × (slice_get lines (length outs) ≡ Some line) × ((i : Valuation) × GivesInput p line i) × (length outs < 65536) × (count ≡ leaf_count p outs) × (65536 < count)
+-- the line gives the input of instant n
+pub record IsDue (p : CoreProgram) (n : ℕ) (line : List ℕ) (input : Valuation) : Type 0 where
+  pub given : GivesInput p line input
+  pub few : n < 65536
+
+-- the instant that follows these outputs has this many leaves, which is too many
+pub record IsOverNet (p : CoreProgram) (limits : Limits) (outs : List Valuation) (count : ℕ) : Type 0 where
+  pub counted : count ≡ leaf_count p outs
+  pub over : limits.net < count
+
+-- it has not, but with its output on this input this many agents ran, which is too many
+pub record IsOverFuel (p : CoreProgram) (limits : Limits) (outs : List Valuation) (input : Valuation) (count : ℕ) : Type 0 where
+  pub fits : leaf_count p outs ≤ limits.net
+  pub output : Valuation
+  pub is : IsOutput p outs input output
+  pub counted : count ≡ spent p (outs ++ output ∷ [])
+  pub over : limits.fuel < count
+
+-- this line ends a run so after the instants that have these outputs
+abbrev pub EndsAt : CoreProgram → Limits → List Valuation → List ℕ → End → Type 0
+EndsAt p limits outs line ends.Whole = ⊥
+EndsAt p limits outs line (ends.Line fault) = IsBadLine p (length outs) line fault
+EndsAt p limits outs line ends.Many = (length line ≤ 32768) × (length outs ≡ 65536)
+EndsAt p limits outs line (ends.Net count) = (input : Valuation) × IsDue p (length outs) line input × IsOverNet p limits outs count
+EndsAt p limits outs line (ends.Fuel count) = (input : Valuation) × IsDue p (length outs) line input × IsOverFuel p limits outs input count
+
+-- these lines end a run so after the instants that have these outputs: all of them are done, or the next one ends it
+abbrev pub EndsBy : CoreProgram → Limits → List (List ℕ) → List Valuation → End → Type 0
+EndsBy p limits lines outs end = ((end ≡ ends.Whole) × (length outs ≡ length lines)) ⊎ ((line : List ℕ) × (slice_get lines (length outs) ≡ Some line) × EndsAt p limits outs line end)
 
 abbrev pub status_of : End → Status
 status_of ends.Whole = statuses.Ok
 status_of (ends.Line fault) = statuses.Trace
 status_of ends.Many = statuses.Trace
 status_of (ends.Net count) = statuses.Net
+status_of (ends.Fuel count) = statuses.Fuel
 
 -- the line for err where a run ends so at instant n
 abbrev pub end_line : ℕ → End → List ℕ
@@ -44,3 +70,4 @@ end_line n ends.Whole = []
 end_line n (ends.Line fault) = trace_line n fault
 end_line n ends.Many = many_line n
 end_line n (ends.Net count) = net_line n count
+end_line n (ends.Fuel count) = fuel_line n count

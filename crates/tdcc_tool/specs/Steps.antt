@@ -1,47 +1,59 @@
--- What one line of a trace does to the book of a run.
-use Rattle.std.specs.Prelude.{◌≡◌, ◌≢◌, ℕ, ◌<◌, ◌≤◌, List, [], ◌∷◌, ◌++◌, length}
+-- What one line of a trace does to the course of a run.
+use Rattle.std.specs.Prelude.{◌≡◌, ◌≢◌, ℕ, ◌<◌, ◌≤◌, List, [], ◌∷◌, ◌++◌, length, IfSome}
 use Rattle.token_system.specs.Stores.{Valuation}
+use Rattle.agent_core.specs.Programs.{CoreProgram}
+use Rattle.agent_core.specs.Closures.{roots}
 use Rattle.agent_core.specs.Leaves.{leaves}
+use Rattle.instant_net.specs.Nets.{Flat}
+use Rattle.instant_net.specs.Opened.{IsNetOf}
 use Rattle.residuals.specs.RootLists.{listed}
 use Rattle.run_book.specs.Books.{BookView, Keeps, IsClosed}
-use Rattle.tdcc_tool.specs.declared.answer.End.{End}
-use Rattle.tdcc_tool.specs.declared.answer.End.TheVariants as ends
 use Rattle.trace_text.specs.declared.fault.LineFault.TheVariants.{Memory}
 use Rattle.trace_text.specs.Inputs.{GivesInput}
-use Rattle.tdcc_tool.specs.RunEnds.{IsBadLine}
+use Rattle.tdcc_tool.specs.declared.course.Course.{Course}
+use Rattle.tdcc_tool.specs.declared.end.End.{End}
+use Rattle.tdcc_tool.specs.declared.end.End.TheVariants as ends
+use Rattle.tdcc_tool.specs.Answers.{KeepsLimits}
+use Rattle.tdcc_tool.specs.RunEnds.{EndsAt}
+use Rattle.tdcc_tool.specs.Writings.{spent, instant_lines}
 
 -- how many leaves the instant has that the book is at
 abbrev pub count_now : BookView → ℕ
 count_now b = length (leaves b.program (listed b.roots) (length b.ins))
 
--- the instant that the book was at is closed, and its output goes on with each run that the book kept
-pub record Closes (before after : BookView) (input : Valuation) : Type 0 where
-  pub small : count_now before ≤ 65536
-  pub output : Valuation
-  pub closed : IsClosed before after input output
-  pub keeps : (full : List Valuation) → Keeps before full → Keeps after (full ++ output ∷ [])
+-- the net is that of the instant after these outputs of the book's program
+abbrev pub IsNetAfter : BookView → List Valuation → Flat → Type 0
+IsNetAfter b past net = IsNetOf b.program b.levels (roots b.program past) (length past) net
 
--- there are so many leaves, which is too many, and the book stays as it was
-pub record Overflows (before after : BookView) (count : ℕ) : Type 0 where
-  pub over : 65536 < count
-  pub counted : count ≡ count_now before
-  pub same : after ≡ before
+-- the course is that of a run with these outputs: the book keeps it, what was written and spent is what is due, and no limit was passed
+pub record Follows (c : Course) (full : List Valuation) : Type 0 where
+  pub keeps : Keeps c.book full
+  pub spent : c.spent ≡ spent c.book.program full
+  pub lines : c.lines.items ≡ instant_lines c.writing c.book.program full
+  pub within : KeepsLimits c.book.program c.limits full
+
+-- an instant is closed on this input, and the course goes on with its output
+pub record Closes (before after : Course) (input : Valuation) : Type 0 where
+  pub output : Valuation
+  pub closed : IsClosed before.book after.book input output
+  pub writing : after.writing ≡ before.writing
+  pub limits : after.limits ≡ before.limits
+  pub follows : (full : List Valuation) → Follows before full → Follows after (full ++ output ∷ [])
 
 -- the line gives the input of an instant, which is closed
-pub record Goes (before after : BookView) (line : List ℕ) : Type 0 where
-  pub few : length before.ins < 65536
+pub record Goes (before after : Course) (line : List ℕ) : Type 0 where
+  pub few : length before.book.ins < 65536
   pub input : Valuation
-  pub given : GivesInput before.program line input
+  pub given : GivesInput before.book.program line input
   pub closes : Closes before after input
-
--- the line ends the run so, and the book stays as it was
-abbrev pub EndsAt : BookView → BookView → List ℕ → End → Type 0
-EndsAt before after line ends.Whole = ⊥
-EndsAt before after line (ends.Line fault) = IsBadLine before.program (length before.ins) line fault × (after ≡ before)
-EndsAt before after line ends.Many = (length before.ins ≡ 65536) × (after ≡ before)
-EndsAt before after line (ends.Net count) = (length before.ins < 65536) × (input : Valuation) × GivesInput before.program line input × Overflows before after count
 
 -- the end says something of the run, and not want of memory
 abbrev pub Says : End → Type 0
 Says (ends.Line fault) = fault ≢ Memory
 Says _ = Unit {0}
+
+-- the run ends so at a line of at most 32,768 bytes, whatever outputs it has had, and its course stays as it was
+pub record Ends (before after : Course) (line : List ℕ) (end : End) : Type 0 where
+  pub at : length line ≤ 32768 → (full : List Valuation) → Follows before full → EndsAt before.book.program before.limits full line end
+  pub same : after ≡ before
+  pub says : Says end

@@ -1,55 +1,29 @@
-//! What a run ends with, and what is written then.
-ghost use Rattle.std.specs.Prelude.{◌≡◌, ◌≢◌, [], IfOk, length};
+//! What a command ends with, and what is written then.
+ghost use Rattle.std.specs.Prelude.{◌≡◌, ◌≢◌, [], List, IfOk, length};
+ghost use Rattle.token_system.specs.Stores.{Valuation};
 ghost use Rattle.tdcc_reader.specs.declared.fault.ReadFault.TheVariants.{Memory as OutOfMemory};
-ghost use Rattle.tdcc_tool.specs.Answers.{store_lines, CoreAnswer};
+ghost use Rattle.tdcc_tool.specs.Answers.{CoreAnswer};
 ghost use Rattle.tdcc_tool.specs.Messages.{program_line as program_line_of, strata_line as strata_line_of};
 ghost use Rattle.tdcc_tool.specs.RunEnds.{end_line as end_line_of, status_of};
-ghost use Rattle.tdcc_tool.specs.Steps.{Says};
+ghost use Rattle.tdcc_tool.specs.Steps.{Follows, Says};
+ghost use Rattle.tdcc_tool.specs.Writings.{written};
 
+use crate::course::Course;
+use crate::end::End;
 use crate::messages::{end_line, program_line, strata_line};
-use crate::store_line::write_stores;
 use agent_core::Program;
 use core_text::print_core;
-use run_book::Book;
 use std::alloc::{AllocError, AllocFailed, Global};
 use tdcc_base::Status;
 use tdcc_reader::ReadFault;
 use token_system::Memory;
-use trace_text::LineFault;
 
-/// What a run ends with, and what is to be written to out and to err.
+/// The status that a command ends with, and what is to be written to out and to err.
 #[derive(Drop)]
 pub struct Answer {
     pub status: Status,
     pub out: Vec<u8>,
     pub err: Vec<u8>,
-}
-
-/// How a run ends.
-#[derive(Clone, Copy, Debug, PartialEq, Eq)]
-pub enum End {
-    /// Every line of the trace was answered.
-    Whole,
-    /// A line gives no input, for this fault.
-    Line { fault: LineFault },
-    /// There is a line more than a run may have instants.
-    Many,
-    /// The instant has more leaves than an instant may have: so many.
-    Net { leaves: u64 },
-}
-
-impl End {
-    /// The status of a call whose run ends so.
-    fn status(self) -> Status
-        ensures { result ≡ status_of self }
-    {
-        match self {
-            End::Whole => Status::Ok,
-            End::Line { .. } => Status::Trace,
-            End::Many => Status::Trace,
-            End::Net { .. } => Status::Net,
-        }
-    }
 }
 
 /// Why there is no answer.
@@ -129,15 +103,15 @@ pub fn core_answer(alloc: Global, program: &Program) -> Result<Answer, Memory>
     })
 }
 
-/// The answer of the run that the book keeps, where it ends so.
-pub fn finish(alloc: Global, book: &Book, end: End) -> Result<Answer, Memory>
+/// The answer of the run that took this course, where it ends so.
+pub fn finish(alloc: Global, course: Course, end: End) -> Result<Answer, Memory>
     requires { Says end }
     ensures status { IfOk result (λ a. a.status ≡ status_of end) }
-    ensures out { IfOk result (λ a. a.out.items ≡ store_lines book.now.program book.now.outs) }
-    ensures err { IfOk result (λ a. a.err.items ≡ end_line_of (length book.now.ins) end) }
+    ensures out { IfOk result (λ a. (full : List Valuation) → Follows course full → a.out.items ≡ written course.writing course.book.program full) }
+    ensures err { IfOk result (λ a. a.err.items ≡ end_line_of (length course.book.ins) end) }
 {
-    let out = write_stores(alloc, book.program(), book.outs())?;
-    let err = end_line(alloc, book.instants(), end)?;
+    let err = end_line(alloc, course.book.instants(), end)?;
+    let out = course.written(alloc)?;
     Ok(Answer {
         status: end.status(),
         out,

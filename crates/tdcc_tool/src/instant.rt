@@ -1,25 +1,41 @@
-//! One instant of a run: its net is opened from the roots that the book keeps, completed, and closed into the book.
-ghost use Rattle.std.specs.Prelude.{◌≡◌, ◌<◌, ℕ, Err, OnOk, length};
+//! One instant of a run: its net is opened from the roots that the book keeps, and completed to its output.
+ghost use Rattle.std.specs.Prelude.{◌≡◌, ◌<◌, ◌≤◌, ℕ, List, Err, IfOk, length};
+ghost use Rattle.token_system.specs.Stores.{Valuation};
+ghost use Rattle.agent_core.specs.Outputs as program;
 ghost use Rattle.agent_core.specs.Stores.{IsInput};
-ghost use Rattle.tdcc_tool.specs.Steps.{Closes, Overflows};
+ghost use Rattle.instant_net.specs.Opened.{IsNetOf};
+ghost use Rattle.instant_net.specs.Outputs.{IsOutput};
+ghost use Rattle.instant_net.specs.Words.{store_in, AreWords};
+ghost use Rattle.residuals.specs.RootLists.{listed};
+ghost use Rattle.run_book.specs.Books.{Keeps};
+ghost use Rattle.tdcc_tool.specs.Steps.{count_now};
 
 use agent_laws::{by_roots_law, one_output_law};
-use instant_net::{NetFault, net_outputs_law, open_net, open_words, stratified_net_law};
+use instant_net::{
+    Net, NetFault, Words, net_outputs_law, open_net, open_words, stratified_net_law,
+};
 use run_book::Book;
 use settle::settle;
 use std::alloc::Global;
 use token_system::Store;
 
-/// The greatest number of leaves of an instant.
-const LEAVES: u32 = 65_536;
-
-/// Runs the instant after those that the book keeps, on this input, and closes it. The book stays as it was where there
-/// are too many leaves.
-pub fn run_instant(alloc: Global, book: &mut Book, input: Store) -> Result<(), NetFault>
-    requires room { length book.old.ins < 65536 }
-    requires input { IsInput book.old.program input }
-    ensures closed { OnOk result (Closes book.old book.new input) }
-    ensures full { (leaves : ℕ) → result ≡ Err (NetFault.NetFull leaves) → Overflows book.old book.new leaves }
+/// The net of the instant after those that the book keeps, and the words of its output on this input, where the instant
+/// has no more leaves than this limit.
+pub fn output_of(
+    alloc: Global,
+    book: &Book,
+    input: &Store,
+    limit: u32,
+) -> Result<(Net, Words), NetFault>
+    requires input { IsInput book.now.program input.now }
+    requires limit { limit ≤ 65536 }
+    ensures net { IfOk result (λ found. IsNetOf book.now.program book.now.levels (listed book.now.roots) (length book.now.ins) found.0) }
+    ensures words { IfOk result (λ found. AreWords found.0.cells found.1) }
+    ensures output { IfOk result (λ found. IsOutput found.0 input.now (store_in found.0.cells found.1)) }
+    ensures run { IfOk result (λ found. (full : List Valuation) → Keeps book.now full → program.IsOutput book.now.program full input.now (store_in found.0.cells found.1)) }
+    ensures small { IfOk result (λ _. count_now book.now ≤ limit) }
+    ensures counted { (leaves : ℕ) → result ≡ Err (NetFault.NetFull leaves) → leaves ≡ count_now book.now }
+    ensures full { (leaves : ℕ) → result ≡ Err (NetFault.NetFull leaves) → limit < leaves }
 {
     one_output_law();
     by_roots_law();
@@ -32,10 +48,9 @@ pub fn run_instant(alloc: Global, book: &mut Book, input: Store) -> Result<(), N
         book.levels(),
         &roots,
         book.instants(),
-        LEAVES,
+        limit,
     )?;
-    let mut words = open_words(alloc, &net, &input)?;
+    let mut words = open_words(alloc, &net, input)?;
     settle(&net, &mut words, 0);
-    book.close(alloc, &net, input, &words)?;
-    Ok(())
+    Ok((net, words))
 }

@@ -1,6 +1,8 @@
 ghost use Rattle.std.specs.Prelude.{List, ℕ};
 ghost use Rattle.tdcc_tool.specs.Answers.{HaveOneAnswer};
-ghost use Rattle.tdcc_tool.specs.Laws.{AcceptedHaveOneOutput, AcceptedHaveOneRun};
+ghost use Rattle.tdcc_tool.specs.Laws.{AcceptedHaveOneOutput, AcceptedHaveOneRun, DifferInWorkers, HaveSameAnswers};
+
+use command_words::workers_law as same_command_law;
 
 /// The words and the bytes of the source have at most one answer, so that the answer that `tdcc`
 /// gives is the only one.
@@ -8,6 +10,15 @@ pub fn answer_law(words: &[String])
     ensures { (bytes : List ℕ) → HaveOneAnswer words.now bytes }
 {
     let _ = words.len();
+}
+
+/// The number of workers changes no answer.
+pub fn workers_law(words: &[String], others: &[String])
+    ensures { DifferInWorkers words.now others.now → HaveSameAnswers words.now others.now }
+{
+    same_command_law();
+    let _ = words.len();
+    let _ = others.len();
 }
 
 /// The program of an accepted text has exactly one output at each instant, after whatever closed stores,

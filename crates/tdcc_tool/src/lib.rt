@@ -2,16 +2,23 @@
 #![tactic(auto)]
 
 mod answer;
-mod command;
+mod answering;
+mod checking;
+mod course;
+mod end;
+mod generated;
 mod instant;
 mod laws;
 mod messages;
 mod reading;
 mod run;
-mod store_line;
+mod running;
+mod summary;
+mod task;
 #[cfg(test)]
 mod tests;
 mod top;
+mod writing;
 
-pub use laws::{answer_law, output_law};
+pub use laws::{answer_law, output_law, workers_law};
 pub use top::tdcc;

@@ -6,7 +6,7 @@ ghost use Rattle.tdcc_tool.specs.Messages as messages;
 ghost use Rattle.tdcc_tool.specs.RunEnds as ends;
 ghost use Rattle.tdcc_tool.specs.Steps.{Says};
 
-use crate::answer::End;
+use crate::end::End;
 use agent_core::Program;
 use std::alloc::Global;
 use tdcc_reader::ReadFault;
@@ -52,7 +52,7 @@ pub fn program_line(alloc: Global, fault: ReadFault) -> Result<Vec<u8>, Memory>
 }
 
 /// The name of the cell, where there is one of this number.
-fn name_of(program: &Program, cell: u32) -> &[u8]
+pub fn name_of(program: &Program, cell: u32) -> &[u8]
     ensures { result.now ≡ messages.cell_name (slice_get program.now.cells cell) }
 {
     match program.cells().get(cell as usize) {
@@ -114,6 +114,10 @@ pub fn end_line(alloc: Global, instant: u32, end: End) -> Result<Vec<u8>, Memory
         End::Many => instant_line(alloc, instant, "over 65536 instants"),
         End::Net { leaves } => {
             let line = format!(in alloc; "tdcc: net: instant {instant}: {leaves} leaves\n")?;
+            Ok(line.as_bytes().to_vec(alloc)?)
+        }
+        End::Fuel { agents } => {
+            let line = format!(in alloc; "tdcc: fuel: instant {instant}: {agents} agents run\n")?;
             Ok(line.as_bytes().to_vec(alloc)?)
         }
     }

@@ -1,13 +1,17 @@
 //! What `tdcc` answers over devices in memory.
 ghost use Rattle.std.specs.Prelude.{◌<◌};
 
+mod checks;
 mod core_texts;
 mod derived;
 mod devices;
+mod generated;
 mod lines;
 mod over_time;
 mod programs;
 mod refusals;
+mod reports;
+mod settings;
 mod slowly;
 mod tokens;
 

@@ -1,18 +1,20 @@
-ghost use Rattle.std.specs.Prelude.{◌≡◌, ◌↔◌, ℕ, List, [], IfOk, IfSome, OnSome, IsTrue, IsErrOf, Some};
+ghost use Rattle.std.specs.Prelude.{◌≡◌, ◌↔◌, ℕ, List, [], IfSome, OnSome, IsTrue, Some};
 ghost use Rattle.std.specs.Io.KnownBytes.{Appends, Consumes};
 ghost use Rattle.tdcc_base.specs.Causes.{Rose};
 ghost use Rattle.tdcc_base.specs.Written.{Tells};
-ghost use Rattle.tdcc_tool.specs.Answers.{Answers, AnswersBy, IsCommand, IsNoCommand};
+ghost use Rattle.command_words.specs.declared.command.Command.{Command};
+ghost use Rattle.tdcc_tool.specs.Answers.{Answers, IsCommand, IsNoCommand};
 ghost use Rattle.tdcc_tool.specs.Completeness.{IsRunnable, EndsWhole, IsRoomFor};
 ghost use Rattle.tdcc_tool.specs.Cuts.{CutsOut, own_line};
-ghost use Rattle.tdcc_tool.specs.Ends.{IsSettled, IsCommandEnd, IsToolStatus};
+ghost use Rattle.tdcc_tool.specs.Ends.{IsSettled, IsToolStatus};
+ghost use Rattle.tdcc_tool.specs.Tasks.{IsGenerated, ReadsTrace};
 
-use crate::answer::{Answer, Stop};
-use crate::command::{Command, command_of};
-use crate::run::answer_lines;
+use crate::answer::Stop;
+use crate::answering::answer_command;
+use command_words::command_of;
 use std::alloc::Global;
 use std::thread::Threads;
-use tdcc_base::{Failed, Gate, Lines, Sink, Source, Status, write_all};
+use tdcc_base::{Failed, Gate, Sink, Source, Status, write_all};
 
 /// Writes a line to err, as far as err takes it.
 fn tell<E: Sink>(err: &mut E, line: &[u8])
@@ -21,26 +23,12 @@ fn tell<E: Sink>(err: &mut E, line: &[u8])
     let _ = write_all(err, line);
 }
 
-/// Reads what the command needs of the source, and answers it.
-fn answer<S: Source>(alloc: Global, command: Command, source: &mut S) -> Result<Answer, Stop>
-    ensures answer { IfOk result (λ a. IfSome (S.left source.old) (λ bytes. AnswersBy command bytes a.status a.out.items a.err.items)) }
-    ensures ended { IfOk result (λ a. command ≡ Command.Run → a.status ≡ Status.Ok → OnSome (S.left source.old) (S.left source.new ≡ Some [])) }
-    ensures read { IsErrOf result Stop.Read → Rose (S.faults source.old) (S.faults source.new) }
-    ensures steady { IsTrue (S.steady source.old) → IsErrOf result Stop.Read → ⊥ }
-    ensures command_end { IfOk result (λ a. IsCommandEnd a.status) }
-{
-    let Ok(mut lines) = Lines::new(alloc, source) else {
-        return Err(Stop::Memory);
-    };
-    answer_lines(alloc, command, &mut lines)
-}
-
 /// Does all that the program does: reads its words and its source, writes its answer to `out` and
 /// the line of a status other than `Ok` to `err`, and answers the status.
 ///
-/// The words are the arguments behind the program's name. Of the source, `run` reads all, and `core` the
-/// program text and what a read gives with it, before anything is written to `out`. No thread is started and the gate is not passed yet. A fault of `err` changes no
-/// status.
+/// The words are the arguments behind the program's name. Of the source, `run` and `report` read all, `check` and `core`
+/// the program text and what a read gives with it, before anything is written to `out`; `gen` reads nothing. No thread is
+/// started and the gate is not passed yet. A fault of `err` changes no status.
 pub fn tdcc<R: Threads + Sync, S: Source, K: Sink, E: Sink, G: Gate>(
     rt: &R,
     alloc: Global,
@@ -77,7 +65,8 @@ pub fn tdcc<R: Threads + Sync, S: Source, K: Sink, E: Sink, G: Gate>(
     ensures usage_out { result ≡ Status.Usage → out.new ≡ out.old }
 
     // What was read, and which statuses there are.
-    ensures ended { IsCommand Command.Run words.now → result ≡ Status.Ok → OnSome (S.left source.old) (S.left source.new ≡ Some []) }
+    ensures ended { (command : Command) → IsCommand command words.now → ReadsTrace command → result ≡ Status.Ok → OnSome (S.left source.old) (S.left source.new ≡ Some []) }
+    ensures generated { (command : Command) → IsCommand command words.now → IsGenerated command → source.new ≡ source.old }
     ensures statuses { IsToolStatus result }
 {
     let _ = rt;
@@ -86,7 +75,7 @@ pub fn tdcc<R: Threads + Sync, S: Source, K: Sink, E: Sink, G: Gate>(
         tell(err, b"tdcc: usage\n");
         return Status::Usage;
     };
-    match answer(alloc, command, source) {
+    match answer_command(alloc, command, source) {
         Ok(answer) => match write_all(out, answer.out.as_slice()) {
             Ok(()) => {
                 tell(err, answer.err.as_slice());

@@ -55,6 +55,11 @@ fn words_that_are_no_command_read_nothing(rt: HostRuntime) -> Result<(), Fail> {
         "run --workers 65",
         "run --workers 0",
         "run --fuel 1 --fuel 1",
+        "report --net 65537",
+        "check --fuel 1",
+        "gen 0",
+        "gen 65537",
+        "gen 5 --net 1",
     ] {
         let mut fails = Vec::new(alloc);
         fails.push(0)?;

@@ -12,7 +12,7 @@ use std::test::Fail;
 use std::thread::Threads;
 use strata::strata;
 use token_system::Store;
-use trace_text::{read_input, write_store};
+use trace_text::{generate, read_input, write_store};
 
 /// The inputs that these lines give.
 fn inputs_of(alloc: Global, program: &Program, lines: &[&str]) -> Result<Vec<Store>, Fail>
@@ -102,10 +102,10 @@ fn programs_of_each_form_run_as_the_evaluator_says(rt: HostRuntime) -> Result<()
         "signal a, b; when a do b",
         "signal a, b; always when a do next b",
         "signal a, b; do always b watching a",
-        "signal a, b; do {b || next when b do always a} watching b",
+        "signal a, b, c, d; do {c || next when a do always d} watching b",
         "signal a, b; time always b on a",
         "signal a, b; time {b || next b} on a",
-        "signal a, b; time do always {b || next a} watching b on a",
+        "signal a, b, c; time do always {c || next c} watching b on a",
         "signal a, b; always new signal s in {s || if s then a || next if s then b}",
         "signal a, b; !a || #b || if b & !b then a || hence {if a & b else new int z in 0..1 in z=1}",
     ] {
@@ -147,4 +147,17 @@ fn fifty_six_programs_run_as_the_evaluator_says(rt: HostRuntime) -> Result<(), F
         }
     }
     Ok(())
+}
+
+#[test]
+fn a_generated_program_runs_as_the_evaluator_says(rt: HostRuntime) -> Result<(), Fail> {
+    let (program, trace) = generate(rt.alloc(), 8)?;
+    let text = String::from_utf8(program)?;
+    let trace = String::from_utf8(trace)?;
+    let mut lines = Vec::new(rt.alloc());
+    for line in trace.as_str().lines() {
+        lines.push(line)?;
+    }
+    assert!(rt; lines.len() == 8);
+    assert_same(&rt, rt.alloc(), text.as_str(), &lines)
 }

@@ -1,5 +1,5 @@
-use Rattle.std.proofs.Common.{◌≡◌, List, ℕ, [], ◌∷◌, ◌++◌, refl, ap, ◌∙◌, append_assoc}
-use Rattle.std.specs.Prelude.{codes, decimal, slice_get, string_bytes}
+use Rattle.std.proofs.Common.{◌≡◌, List, ℕ, [], ◌∷◌, ◌++◌, ap, ◌∙◌, append_assoc}
+use Rattle.std.specs.Prelude.{codes, decimal, slice_get}
 use Rattle.tdcc_tool.specs.Messages as messages
 use Rattle.tdcc_tool.proofs.messages.strata_line.Goals as goal
 

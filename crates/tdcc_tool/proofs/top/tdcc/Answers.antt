@@ -3,9 +3,10 @@ use Rattle.std.specs.Io.KnownBytes.{Appends}
 use Rattle.tdcc_base.specs.Written.{AppendsPart, Tells}
 use Rattle.tdcc_base.proofs.Known.{Appends-nothing}
 use Rattle.tdcc_tool.specs.Messages.{usage_line}
-use Rattle.tdcc_tool.specs.declared.command.Command.TheVariants.{Run}
+use Rattle.command_words.specs.declared.command.Command.TheVariants.{Run, Report}
 use Rattle.tdcc_tool.specs.Answers.{IsCommand}
 use Rattle.tdcc_tool.proofs.Texts.{IfSome-all, IfSome-map, IfSome-at, true_and_false}
+use Rattle.tdcc_tool.proofs.Commands.{has_net_limit}
 use Rattle.tdcc_tool.proofs.OneAnswer.{one_answer}
 use Rattle.tdcc_tool.proofs.WholeRuns.{runs_whole, no_room}
 use Rattle.tdcc_tool.proofs.top.tdcc.Goals as goal
@@ -15,7 +16,7 @@ returns-in_default-clause-answer g c _ =
     IfSome-all (g.S.Source.left c.args.source.now) _ (λ bytes. ([], usage_line, inr (record { none = c.in_default.ensures; is = refl; nothing = refl; told = refl }), Appends-nothing _, c.tell.ensures))
 
 pub returns-in_default-clause-whole : goal.returns-in_default-clause-whole
-returns-in_default-clause-whole g c = IfSome-all (g.S.Source.left c.args.source.now) _ (λ bytes r. c.in_default.ensures Run r.command)
+returns-in_default-clause-whole g c = IfSome-all (g.S.Source.left c.args.source.now) _ (λ bytes r. elim r.calls [ inl is ↦ c.in_default.ensures (Run r.limits) is | inr is ↦ c.in_default.ensures (Report r.limits) is ])
 
 pub returns-in-Ok-clause-cut_out : goal.returns-in-Ok-clause-cut_out
 returns-in-Ok-clause-cut_out g c bytes given known taken s o e answer =
@@ -46,3 +47,6 @@ returns-in-Ok-write_all-clause-answer g c _ =
       subst (Appends (g.K.Sink.written c.args.out.now) (g.K.Sink.written c.write_all.new.sink)) c.as_slice.ensures.value c.in-Ok-write_all.ensures.ok,
       subst (Tells (g.E.Sink.written c.args.err.now) (g.E.Sink.written c.tell-in-Ok-write_all.new.err) (g.E.Sink.faults c.args.err.now) (g.E.Sink.faults c.tell-in-Ok-write_all.new.err)) c.as_slice-in-Ok-write_all.ensures.value c.tell-in-Ok-write_all.ensures,
     ))
+
+pub answer_command-requires : goal.answer_command-requires
+answer_command-requires g c = record { net = has_net_limit c.args.words.now c.in-Some.command c.in-Some.ensures }

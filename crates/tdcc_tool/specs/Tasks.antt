@@ -1,0 +1,50 @@
+-- What each command does with which bytes. This project's own.
+use Rattle.std.specs.Prelude.{ℕ, ◌≤◌, List, ◌++◌, codes}
+use Rattle.command_words.specs.declared.command.Command.{Command}
+use Rattle.command_words.specs.declared.command.Command.TheVariants as commands
+use Rattle.command_words.specs.declared.settings.Limits.{Limits}
+use Rattle.trace_text.specs.Generated.{program_text, trace_text}
+use Rattle.tdcc_tool.specs.declared.task.Task.{Task}
+use Rattle.tdcc_tool.specs.declared.task.Task.TheVariants as tasks
+use Rattle.tdcc_tool.specs.declared.writing.Writing.TheVariants.{Stores, Reports, Summary}
+
+-- the limits of a generated run: those that are usual
+abbrev pub usual_limits : Limits
+usual_limits = record { fuel = 100000000; net = 65536 }
+
+abbrev pub task_of : Command → Task
+task_of (commands.Run limits) = tasks.Run Stores limits
+task_of (commands.Report limits) = tasks.Run Reports limits
+task_of commands.Check = tasks.Check
+task_of commands.Core = tasks.Core
+task_of (commands.Generate n) = tasks.Run Summary usual_limits
+
+-- the generated program and trace, with the mark between them
+abbrev pub generated : ℕ → List ℕ
+generated n = program_text n ++ codes "\n%%\n" ++ trace_text n
+
+-- a generated run reads what is generated, and all others the bytes of the source
+abbrev pub input_of : Command → List ℕ → List ℕ
+input_of (commands.Generate n) bytes = generated n
+input_of _ bytes = bytes
+
+-- the command generates its input
+abbrev pub IsGenerated : Command → Type 0
+IsGenerated (commands.Generate n) = Unit {0}
+IsGenerated _ = ⊥
+
+-- the command reads its trace from the source
+abbrev pub ReadsTrace : Command → Type 0
+ReadsTrace (commands.Run limits) = Unit {0}
+ReadsTrace (commands.Report limits) = Unit {0}
+ReadsTrace _ = ⊥
+
+-- a run may have 65,536 leaves in an instant at most
+abbrev pub HasNetLimit : Task → Type 0
+HasNetLimit (tasks.Run writing limits) = limits.net ≤ 65536
+HasNetLimit _ = Unit {0}
+
+-- the task is to run the program
+abbrev pub IsRun : Task → Type 0
+IsRun (tasks.Run writing limits) = Unit {0}
+IsRun _ = ⊥

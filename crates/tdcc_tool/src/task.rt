@@ -1,0 +1,36 @@
+//! What is to be done with a program text.
+ghost use Rattle.std.specs.Prelude.{◌≡◌};
+ghost use Rattle.tdcc_tool.specs.Tasks as tasks;
+
+use crate::writing::Writing;
+use command_words::{Command, Limits};
+
+/// The limits of a generated run.
+const USUAL_LIMITS: Limits = Limits {
+    fuel: 100_000_000,
+    net: 65_536,
+};
+
+/// What is to be done with a program text, and the trace behind it.
+#[derive(Clone, Copy, Debug, PartialEq, Eq)]
+pub enum Task {
+    /// Run the program on the trace within the limits, and write this.
+    Run(Writing, Limits),
+    /// Write how large the program is, and the stratum of each cell.
+    Check,
+    /// Write the core text of the program.
+    Core,
+}
+
+/// What a command does with its program text.
+pub fn task_of(command: Command) -> Task
+    ensures { result ≡ tasks.task_of command }
+{
+    match command {
+        Command::Run(limits) => Task::Run(Writing::Stores, limits),
+        Command::Report(limits) => Task::Run(Writing::Reports, limits),
+        Command::Check => Task::Check,
+        Command::Core => Task::Core,
+        Command::Generate(_) => Task::Run(Writing::Summary, USUAL_LIMITS),
+    }
+}
