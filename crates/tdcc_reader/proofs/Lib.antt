@@ -7,6 +7,7 @@ pub mod Limited
 pub mod Scoped
 pub mod Options
 pub mod Insertions
+pub mod Indexed
 pub mod BuiltTrees
 pub mod Sizes
 pub mod Listings

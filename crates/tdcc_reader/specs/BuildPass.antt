@@ -12,7 +12,6 @@ use Rattle.program_grammar.specs.declared.parts.Part.TheVariants.{Declarations, 
 use Rattle.tdcc_reader.specs.declared.draft.DraftKind.{DraftKind}
 use Rattle.tdcc_reader.specs.declared.draft.DraftKind.TheVariants as kind
 use Rattle.tdcc_reader.specs.declared.build.Builder as code
-use Rattle.tdcc_reader.specs.declared.build.Scoped as code_scoped
 use Rattle.tdcc_reader.specs.declared.build.Held as code_held
 use Rattle.tdcc_reader.specs.declared.build.Held.TheVariants as held
 use Rattle.tdcc_reader.specs.Trees.{Ask}
@@ -46,11 +45,11 @@ waits_view (held.Subject cell) = Subject cell
 waits_view (held.Item name) = Item name.now
 waits_view (held.Low name value) = Low name.now value
 
-abbrev pub scoped_view : code_scoped.Scoped → Placed
-scoped_view s = placed s.name.now s.cell
+abbrev pub scoped_view : List ℕ × ℕ → Placed
+scoped_view s = placed s.0 s.1
 
 abbrev pub built_view : code.Builder → Built
-built_view b = built (map draft_view b.drafts.items) b.ask.items (reverse b.starts.items) (reverse (map scoped_view b.scope.items)) (map cell_view b.cells.items) (waits_view b.held) b.declared
+built_view b = built (map draft_view b.drafts.items) b.ask.items (reverse b.starts.items) (map scoped_view b.scope) (map cell_view b.cells.items) (waits_view b.held) b.declared
 
 -- a draft without a constraint, or with the one at hand
 abbrev pub puts : DraftKind → Built → Built

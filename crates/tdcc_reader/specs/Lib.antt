@@ -8,6 +8,7 @@ pub mod Limits
 pub mod Passes
 pub mod LimitPass
 pub mod Scope
+pub mod Meanings
 pub mod NamingPass
 pub mod Trees
 pub mod Surfaces

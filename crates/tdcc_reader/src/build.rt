@@ -14,19 +14,13 @@ ghost use Rattle.tdcc_reader.specs.declared.draft.DraftKind as DraftKind;
 
 use crate::cells::{number_cell, signal_cell};
 use crate::draft::{Draft, DraftKind};
+use crate::scope::Scope;
 use crate::terms::{Term, term_at};
 use agent_core::{CellDecl, Name};
 use program_grammar::{Part, Step, Word, places_law};
 use std::alloc::{AllocError, Global};
 use std::mem;
 use token_system::{Cell, Token};
-
-/// A name in scope, and the number of its cell.
-#[derive(Clone, Copy, Debug, PartialEq, Eq)]
-struct Scoped<'a> {
-    name: &'a [u8],
-    cell: u32,
-}
 
 /// What a later lexeme completes.
 #[derive(Clone, Copy, Debug, PartialEq, Eq)]
@@ -48,24 +42,17 @@ pub(crate) struct Builder<'a> {
     ask: Vec<(u32, Token)>,
     /// Where the unit at hand of each open agent, `do` and `time` begins.
     starts: Vec<usize>,
-    scope: Vec<Scoped<'a>>,
+    scope: Scope<'a, u32>,
     pub(crate) cells: Vec<CellDecl>,
     held: Held<'a>,
     pub(crate) declared: usize,
 }
 
 /// The cell of a name in scope.
-fn cell_of(scope: &[Scoped<'_>], name: &[u8]) -> u32
-    ensures { result ≡ cell_of (reverse (map scoped_view scope.now)) name.now }
+fn cell_of<'a>(scope: &Scope<'a, u32>, name: &'a [u8]) -> u32
+    ensures { result ≡ cell_of (map scoped_view scope.now) name.now }
 {
-    let mut left = scope.len();
-    while left > 0 {
-        left -= 1;
-        if scope[left].name == name {
-            return scope[left].cell;
-        }
-    }
-    0
+    scope.meaning(name).unwrap_or(0)
 }
 
 impl<'a> Builder<'a> {
@@ -169,7 +156,7 @@ impl<'a> Builder<'a> {
         ensures { OnOk result (built_view self.new ≡ declares name.now (declared_as name.now cell) (built_view self.old)) }
     {
         let number = self.next_cell();
-        self.scope.push(Scoped { name, cell: number })?;
+        self.scope.enter(name, number)?;
         self.cells.push(CellDecl {
             name: Name::make(name.to_vec(alloc)?),
             cell,
@@ -218,7 +205,7 @@ impl<'a> Builder<'a> {
     fn leave_scope(&mut self)
         ensures { built_view self.new ≡ leaves_scope (built_view self.old) }
     {
-        let _ = self.scope.pop();
+        self.scope.leave();
     }
 
     fn hold(&mut self, held: Held<'a>)
@@ -364,7 +351,7 @@ fn build_steps<'a>(
         drafts: Vec::new(alloc),
         ask: Vec::new(alloc),
         starts: Vec::new(alloc),
-        scope: Vec::new(alloc),
+        scope: Scope::new(alloc),
         cells: Vec::new(alloc),
         held: Held::Nothing,
         declared: 0,

@@ -14,6 +14,7 @@ mod limits;
 mod naming;
 mod parsing;
 mod reader;
+mod scope;
 mod surface;
 mod terms;
 #[cfg(test)]
