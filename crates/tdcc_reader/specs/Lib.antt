@@ -13,6 +13,8 @@ pub mod NamingPass
 pub mod Trees
 pub mod Surfaces
 pub mod Drafts
+pub mod Growing
+pub mod Arrivals
 pub mod BuildPass
 pub mod Texts
 pub mod Parts

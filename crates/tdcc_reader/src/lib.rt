@@ -2,6 +2,7 @@
 //! refusal.
 #![tactic(auto)]
 
+mod arrivals;
 mod build;
 mod cells;
 mod dialect;
