@@ -1,5 +1,5 @@
 -- The same for the drafts of the code, where the newest one is the last.
-use Rattle.std.proofs.Common.{◌≡◌, ℕ, ◌+◌, ◌-◌, ◌≤◌, ◌<◌, min, List, [], ◌∷◌, ◌++◌, length, reverse, Bool, true, false, refl, ap, sym, ◌∙◌, subst, arith, append_assoc}
+use Rattle.std.proofs.Common.{◌≡◌, ℕ, ◌+◌, ◌-◌, ◌≤◌, min, List, [], ◌∷◌, ◌++◌, length, reverse, true, false, ap, sym, ◌∙◌, subst, arith, append_assoc}
 use Rattle.std.specs.Prelude.{map, insert}
 use Rattle.std.specs.List.{AllByRecursion}
 use Rattle.std.proofs.lemmas.Bool.{leb-true, leb-false}
@@ -9,8 +9,8 @@ use Rattle.tdcc_reader.specs.declared.draft.Draft.{Draft}
 use Rattle.tdcc_reader.specs.declared.draft.DraftKind.TheVariants.{Par}
 use Rattle.tdcc_reader.specs.Drafts.{Entry, entry, draft_view}
 use Rattle.tdcc_reader.specs.Growing.{growing, paired}
-use Rattle.tdcc_reader.specs.Arrivals.{Came, came, came_view, came_views, arranged, StaysBehind, AreNested, AreOpen, Arranges, put_in, goes_in}
-use Rattle.tdcc_reader.proofs.Nested.{last_first, length-arranged, arranged_last, open_below, open_more, open_less, open_behind, opened, nested_put, put_in_before, below_more}
+use Rattle.tdcc_reader.specs.Arrivals.{Came, came_view, came_views, arranged, AreNested, AreOpen, Arranges, put_in, goes_in}
+use Rattle.tdcc_reader.proofs.Nested.{last_first, length-arranged, arranged_last, open_more, open_less, open_behind, opened, put_in_before, below_more}
 
 pub length-came_views : (cs : List Arrival) → length (came_views cs) ≡ length cs
 length-came_views cs = length-map (reverse cs) came_view ∙ length-reverse cs

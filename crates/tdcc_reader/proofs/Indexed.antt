@@ -1,5 +1,5 @@
 -- An index of names, when a name enters the scope and when one leaves it.
-use Rattle.std.proofs.Common.{◌≡◌, ℕ, List, [], ◌∷◌, ◌++◌, reverse, Option, Some, IsSome, Bool, true, false, cond, bytes_eq, Bor, refl, ap, sym, subst, ◌∙◌}
+use Rattle.std.proofs.Common.{◌≡◌, ℕ, List, [], ◌∷◌, ◌++◌, reverse, Option, Some, IsSome, Bool, true, false, cond, bytes_eq, Bor, refl, ap, ◌∙◌}
 use Rattle.std.specs.Prelude.{map, if◌then◌else◌}
 use Rattle.std.specs.BTreeMap.{BTreeMap}
 use Rattle.std.specs.Map.{update}

@@ -1,5 +1,5 @@
 -- Drafts that came, when one more comes, and when the last one goes to its place.
-use Rattle.std.proofs.Common.{◌≡◌, ℕ, ◌+◌, ◌≤◌, ◌<◌, List, [], ◌∷◌, ◌++◌, length, reverse, Bool, true, false, refl, ap, sym, ◌∙◌, subst, arith}
+use Rattle.std.proofs.Common.{◌≡◌, ℕ, ◌≤◌, List, [], ◌∷◌, ◌++◌, length, reverse, refl, ap, sym, ◌∙◌, arith}
 use Rattle.std.specs.Prelude.{map, insert}
 use Rattle.std.specs.List.{AllByRecursion}
 use Rattle.std.proofs.lemmas.List.{reverse-append}
@@ -57,10 +57,6 @@ open_behind (k ∷ ks) c cs b o = (o.1.0 b.0, open_behind ks c cs b.1 o.3)
 -- a place behind all of them
 pub opened : (ks : List ℕ) (cs : List Came) → AreOpen ks cs → AreOpen (length cs ∷ ks) cs
 opened ks cs o = (omega arith, all_behind (length cs) cs (omega arith), open_below ks cs o, o)
-
--- one more comes, with its place behind all of them
-pub nested_put : (e : Entry) (cs : List Came) → AreNested cs → AreNested (came (length cs) e ∷ cs)
-nested_put e cs n = (omega arith, all_behind (length cs) cs (omega arith), n)
 
 -- those that wait go in before the last one
 pub put_in_before : (fs : List Entry) (e : Entry) (ws : List Came) → AllByRecursion (λ j. j ≤ length fs) (map (λ c. c.place) ws) → put_in (fs ++ e ∷ []) ws ≡ put_in fs ws ++ e ∷ []

@@ -17,8 +17,8 @@ use Rattle.tdcc_reader.specs.declared.build.Held.TheVariants as held
 use Rattle.tdcc_reader.specs.Trees.{Ask}
 use Rattle.tdcc_reader.specs.Surfaces.{Placed, placed, cell_of, Declared, signal, number, cell_view}
 use Rattle.tdcc_reader.specs.Drafts.{Entry, entry}
-use Rattle.tdcc_reader.specs.Growing.{Growing, growing, less_first, paired, wrapped}
-use Rattle.tdcc_reader.specs.Passes.{Pass, by_term}
+use Rattle.tdcc_reader.specs.Growing.{Growing, growing, paired, wrapped}
+use Rattle.tdcc_reader.specs.Passes.{Pass, by_term, less_first}
 
 -- what waits for a later term: nothing, the cell of a token, the name of a number, or that with its least value
 pub data Waits : Type 0 where

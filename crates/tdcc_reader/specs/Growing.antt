@@ -11,10 +11,6 @@ pub record Growing : Type 0 where
 abbrev pub growing : List Entry → List ℕ → Growing
 growing fs ss = record { drafts = fs; starts = ss }
 
-abbrev pub less_first : {X : Type 0} → List X → List X
-less_first [] = []
-less_first (x ∷ xs) = xs
-
 -- the unit at hand is the body of this form
 abbrev pub wrapped : Entry → List ℕ → Growing → Growing
 wrapped e [] g = g

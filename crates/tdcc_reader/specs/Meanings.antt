@@ -12,11 +12,6 @@ module _ {T : Type 0} where
   meaning_of [] x = None
   meaning_of (m ∷ ms) x = if bytes_eq m.0 x then Some m.1 else meaning_of ms x
 
-  -- all but the newest one
-  abbrev pub less_newest : List (List ℕ × T) → List (List ℕ × T)
-  less_newest [] = []
-  less_newest (m ∷ ms) = ms
-
   -- what the code has of them; the newest one is its last
   abbrev pub named_view : Named T → List ℕ × T
   named_view n = (n.name.now, n.meaning)

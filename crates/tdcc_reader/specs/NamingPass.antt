@@ -11,7 +11,7 @@ use Rattle.tdcc_reader.specs.declared.naming.Waiting.TheVariants as waiting
 use Rattle.tdcc_reader.specs.declared.naming.Naming as pass
 use Rattle.tdcc_reader.specs.Limits.{first}
 use Rattle.tdcc_reader.specs.Scope.{Known, known, kind_of, signal_fault, number_fault, declared_fault, domain_fault, signal_use, any_use}
-use Rattle.tdcc_reader.specs.Passes.{Pass, by_term}
+use Rattle.tdcc_reader.specs.Passes.{Pass, by_term, less_first}
 
 pub record Names : Type 0 where
   pub scope : List Known
@@ -27,10 +27,6 @@ known_view k = known k.0 k.1
 
 abbrev pub names_view : pass.Naming → Names
 names_view n = names (map known_view n.scope) n.waiting n.found
-
-abbrev pub less_first : {X : Type 0} → List X → List X
-less_first [] = []
-less_first (x ∷ xs) = xs
 
 -- a fault, if none was found before
 abbrev pub note : Option NameFault → Names → Names

@@ -1,8 +1,9 @@
 // Drafts in the order in which they come.
 ghost use Rattle.std.specs.Prelude.{◌≡◌, ◌∷◌, ◌++◌, ◌<◌, ◌+◌, ◌*◌, [], false, IfOk, IsTrue, List, OnOk, length, map};
 ghost use Rattle.tdcc_reader.specs.Arrivals.{Arranges, came_views, goes_in};
-ghost use Rattle.tdcc_reader.specs.Drafts.{Entry, draft_view, entry};
-ghost use Rattle.tdcc_reader.specs.Growing.{growing, less_first, paired, wrapped};
+ghost use Rattle.tdcc_reader.specs.Drafts.{Entry, draft_view};
+ghost use Rattle.tdcc_reader.specs.Growing.{growing, paired, wrapped};
+ghost use Rattle.tdcc_reader.specs.Passes.{less_first};
 
 use crate::draft::{Draft, DraftKind};
 use std::alloc::{AllocError, Global};

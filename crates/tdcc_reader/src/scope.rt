@@ -1,7 +1,8 @@
 // The names in scope, each with what it means.
 ghost use Rattle.std.specs.Prelude.{◌≡◌, ◌∷◌, [], ℕ, IsSome, List, OnOk, bytes_eq};
 ghost use Rattle.std.specs.Map.{update};
-ghost use Rattle.tdcc_reader.specs.Meanings.{indexed, less_newest, meaning_of};
+ghost use Rattle.tdcc_reader.specs.Meanings.{indexed, meaning_of};
+ghost use Rattle.tdcc_reader.specs.Passes.{less_first};
 
 use std::alloc::{AllocError, Global};
 use std::collections::BTreeMap;
@@ -91,7 +92,7 @@ impl<'a, T: Copy> Scope<'a, T> {
 
     /// Takes the newest name out of the scope, if there is one.
     pub(crate) fn leave(&mut self)
-        ensures { self.new ≡ less_newest self.old }
+        ensures { self.new ≡ less_first self.old }
     {
         if let Some(last) = self.named.pop() {
             restore(&mut self.newest, last.name, last.hidden);

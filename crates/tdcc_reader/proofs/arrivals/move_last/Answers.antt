@@ -1,5 +1,4 @@
-use Rattle.std.proofs.Common.{◌≡◌, Bool, ap, sym, ◌∙◌, arith, List, length, vec_len}
-use Rattle.tdcc_reader.specs.declared.arrivals.Arrival.{Arrival}
+use Rattle.std.proofs.Common.{◌≡◌, ap, sym, ◌∙◌, arith, length}
 use Rattle.tdcc_reader.specs.Arrivals.{came_views, goes_in}
 use Rattle.tdcc_reader.proofs.Arranging.{front_goes, last_goes, last_waits}
 use Rattle.tdcc_reader.proofs.arrivals.move_last.Goals as goal

@@ -1,4 +1,4 @@
-use Rattle.std.proofs.Common.{◌≡◌, ℕ, List, [], ◌∷◌, Option, Some, cond, bytes_eq, refl, ap, ◌∙◌}
+use Rattle.std.proofs.Common.{◌≡◌, ℕ, List, [], ◌∷◌, Some, cond, bytes_eq, refl, ap, ◌∙◌}
 use Rattle.std.specs.Prelude.{map}
 use Rattle.token_system.specs.declared.cell.Kind.{Kind}
 use Rattle.tdcc_reader.specs.Meanings.{meaning_of}

@@ -1,4 +1,4 @@
-use Rattle.std.proofs.Common.{ℕ, ◌+◌, ◌*◌, length}
+use Rattle.std.proofs.Common.{◌+◌, ◌*◌, length}
 use Rattle.tdcc_reader.specs.Arrivals.{Arranges}
 use Rattle.tdcc_reader.proofs.arrivals.Arrivals.in_preorder.Given as goal
 

@@ -1,4 +1,4 @@
-use Rattle.std.proofs.Common.{◌≡◌, ◌∷◌, [], ◌++◌, ◌+◌, ◌-◌, length, min, reverse, ap, sym, ◌∙◌, arith}
+use Rattle.std.proofs.Common.{◌≡◌, ◌+◌, ◌-◌, length, reverse, ap, sym, ◌∙◌, arith}
 use Rattle.tdcc_reader.specs.declared.draft.DraftKind.TheVariants.{Par}
 use Rattle.tdcc_reader.specs.Drafts.{entry}
 use Rattle.tdcc_reader.specs.Growing.{paired}

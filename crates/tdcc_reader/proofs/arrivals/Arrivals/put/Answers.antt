@@ -1,4 +1,4 @@
-use Rattle.std.proofs.Common.{◌≡◌, ◌∷◌, [], ◌++◌, reverse, ap, ◌∙◌, arith}
+use Rattle.std.proofs.Common.{◌∷◌, [], ◌++◌, reverse, ap, ◌∙◌, arith}
 use Rattle.tdcc_reader.specs.Drafts.{draft_view}
 use Rattle.tdcc_reader.specs.Growing.{growing}
 use Rattle.tdcc_reader.proofs.Arranging.{put_arranged, put_keeps}
