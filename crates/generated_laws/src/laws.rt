@@ -1,5 +1,5 @@
 // The laws of generated programs, each proved as the contract of a function with no body.
-ghost use Rattle.std.specs.Prelude.{ℕ};
+ghost use Rattle.std.specs.Prelude.{ℕ, [], ◌∷◌, ◌++◌};
 ghost use Rattle.agent_core.specs.Programs.{CoreProgram};
 ghost use Rattle.tdcc_reader.specs.declared.dialect.Dialect.TheVariants.{Program};
 ghost use Rattle.tdcc_reader.specs.Texts.{ReadsAs};
@@ -9,8 +9,10 @@ ghost use Rattle.generated_laws.specs.GeneratedSurfaces.{surface};
 ghost use Rattle.generated_laws.specs.GeneratedTables.{table, IsSmall};
 
 /// The generated text of each number is accepted as a program text: its surface has 32 signals, 8 numbers from 0 to 99,
-/// and the forms of the 39 parts that were drawn. The core program of that is far below all limits, and has strata.
+/// and the forms of the 39 parts that were drawn. So is the line that the text is, with its line feed. The core program of
+/// that is far below all limits, and has strata.
 pub fn generated_law()
     ensures reads { (n : ℕ) → ReadsAs Program (program_text n) (surface n) }
+    ensures reads_line { (n : ℕ) → ReadsAs Program (program_text n ++ 10 ∷ []) (surface n) }
     ensures built { (n : ℕ) (p : CoreProgram) → IsExpansion (surface n) p → IsSmall p (table n) }
 {}

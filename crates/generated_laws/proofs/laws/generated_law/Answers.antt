@@ -1,9 +1,12 @@
-use Rattle.generated_laws.proofs.Accepted.{text_read}
+use Rattle.generated_laws.proofs.Accepted.{text_read, line_read}
 use Rattle.generated_laws.proofs.Built.{small}
 use Rattle.generated_laws.proofs.laws.generated_law.Goals as goal
 
 pub returns-clause-reads : goal.returns-clause-reads
 returns-clause-reads c = text_read
+
+pub returns-clause-reads_line : goal.returns-clause-reads_line
+returns-clause-reads_line c = line_read
 
 pub returns-clause-built : goal.returns-clause-built
 returns-clause-built c = small
