@@ -8,3 +8,5 @@ pub mod Accepted
 pub mod PartSketches
 pub mod PartStrata
 pub mod Built
+pub mod SignalLines
+pub mod Parted

@@ -1,8 +1,9 @@
 -- The text of a generated program says the terms of its phrase.
-use Rattle.std.proofs.Common.{◌≡◌, ℕ, zero, suc, ◌+◌, ◌<◌, ◌≤◌, pos, Bool, true, false, List, [], ◌∷◌, ◌++◌, length, Option, Some, None, refl, ap, ◌∙◌, append_assoc, codes, decimal, map, arith}
+use Rattle.std.proofs.Common.{◌≡◌, ℕ, zero, suc, ◌+◌, ◌<◌, ◌≤◌, pos, Bool, true, false, List, [], ◌∷◌, ◌++◌, length, Option, Some, None, refl, sym, ap, ◌∙◌, append_assoc, codes, decimal, map, arith}
 use Rattle.std.specs.Prelude.{nat_le, ◌&&◌}
 use Rattle.std.specs.List.{list_all, range_with_len}
 use Rattle.std.specs.Fmt.{digits}
+use Rattle.std.proofs.lemmas.List.{append-nil}
 use Rattle.program_lexemes.specs.declared.lexer.LexKind.{LexKind}
 use Rattle.program_lexemes.specs.declared.lexer.LexKind.TheVariants as kind
 use Rattle.program_lexemes.specs.declared.bytes.TextForm.TheVariants.{Program}
@@ -65,10 +66,10 @@ number_is i few = passed_name (number_name i) (row_passes (λ k. is_name (number
 -- PARTS
 
 -- the bytes behind a unit: white space, or the end, where no word and no number goes on
-record IsEnd (space text : List ℕ) : Type 0 where
-  white : list_all is_white space ≡ true
-  no_word : stops is_word_byte (space ++ text)
-  no_digit : stops is_digit (space ++ text)
+pub record IsEnd (space text : List ℕ) : Type 0 where
+  pub white : list_all is_white space ≡ true
+  pub no_word : stops is_word_byte (space ++ text)
+  pub no_digit : stops is_digit (space ++ text)
 
 six : (a b c d e f rest : List ℕ) → (((((a ++ b) ++ c) ++ d) ++ e) ++ f) ++ rest ≡ a ++ (b ++ (c ++ (d ++ (e ++ (f ++ rest)))))
 six a b c d e f rest = append_assoc ((((a ++ b) ++ c) ++ d) ++ e) f rest ∙ append_assoc (((a ++ b) ++ c) ++ d) e (f ++ rest) ∙ four a b c d (e ++ (f ++ rest))
@@ -126,12 +127,13 @@ part_says (Bounds i n k) (fi, fn, fk) space text terms end w =
     (more_written (codes ">=") kind.Symbol [] GreaterEqual refl refl refl (greater_cut (decimal k ++ (space ++ text))) refl
     (number_written (pos k) space (small_bound k fk) end.white end.no_digit w)))))))
 
--- one part and then some more, to the end of the text
-pub parts_say : (u : Part) (us : List Part) → IsPart u → Each IsPart us → Says (part_text u ++ separated (codes " || ") (map part_text us)) (agent (agent_phrase (u ∷ us)) [])
-parts_say u [] is all = part_says u is [] [] [] (record { white = refl; no_word = tt; no_digit = tt }) none_written
-parts_say u (v ∷ vs) is all =
-    part_says u is (32 ∷ []) (codes "|| " ++ (part_text v ++ separated (codes " || ") (map part_text vs))) (Bars ∷ agent (agent_phrase (v ∷ vs)) []) (record { white = refl; no_word = refl; no_digit = refl })
-    (more_written (codes "||") kind.Symbol (32 ∷ []) Bars refl refl refl refl refl (parts_say v vs all.0 all.1))
+-- one part and then some more, with such bytes behind the last
+pub parts_say : (u : Part) (us : List Part) (space : List ℕ) → IsPart u → Each IsPart us → IsEnd space [] → Says (part_text u ++ (separated (codes " || ") (map part_text us) ++ space)) (agent (agent_phrase (u ∷ us)) [])
+parts_say u [] space is all end = same_written (ap (λ (t : List ℕ). part_text u ++ t) (sym (append-nil space))) (part_says u is space [] [] end none_written)
+parts_say u (v ∷ vs) space is all end =
+    same_written (ap (λ (t : List ℕ). part_text u ++ (32 ∷ 124 ∷ 124 ∷ 32 ∷ t)) (append_assoc (part_text v) (separated (codes " || ") (map part_text vs)) space))
+    (part_says u is (32 ∷ []) (codes "|| " ++ (part_text v ++ (separated (codes " || ") (map part_text vs) ++ space))) (Bars ∷ agent (agent_phrase (v ∷ vs)) []) (record { white = refl; no_word = refl; no_digit = refl })
+    (more_written (codes "||") kind.Symbol (32 ∷ []) Bars refl refl refl refl refl (parts_say v vs space all.0 all.1 end)))
 
 -- DECLARATIONS
 

@@ -21,7 +21,7 @@ IsPart (Starts i j) = (j < 32) × (i < j)
 IsPart (Ends i j h) = (j < 32) × (i < j) × (h < j)
 IsPart (Bounds i n k) = (i < 32) × (n < 8) × (k < 100)
 
-drawn-lt : (x k m : ℕ) → 0 < m → drawn x k m < m
+pub drawn-lt : (x k m : ℕ) → 0 < m → drawn x k m < m
 drawn-lt x k m h = mod-lt (after x (k + 1) / 65536) h
 
 rule_is : (form i j h : ℕ) → j < 32 → i < j → h < j → IsPart (rule_of form i j h)

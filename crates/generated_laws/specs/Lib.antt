@@ -1,3 +1,4 @@
 pub mod GeneratedParts
 pub mod GeneratedSurfaces
 pub mod GeneratedTables
+pub mod GeneratedInputs
