@@ -143,7 +143,7 @@ right_built f h e g rest s n c v d =
 -- a body in front of its constraint
 ended : (a : Agent) (q : Constraint) (k : DraftKind) (mid end : Event)
     → ((rest : List Event) (b : pass.Built) → acts (mid ∷ rest) b ≡ acts rest b)
-    → ((rest : List Event) (b : pass.Built) → acts (end ∷ rest) b ≡ acts rest (pass.wraps k b.starts b))
+    → ((rest : List Event) (b : pass.Built) → acts (end ∷ rest) b ≡ acts rest (pass.wraps k b))
     → (rest : List Event) (f : List Entry) (s : List ℕ) (n : List Placed) (c : List Declared) (d : ℕ) → AgentBuilt a → length c + length (agent_cells a) ≤ 4294967295
     → acts (agent_events a (mid ∷ constraint_events OneToken q (end ∷ rest))) (B f [] (length f ∷ length f ∷ s) n c d)
     ≡ acts rest (B (f ++ entry k (ask_of n q) ∷ drafts (agent_tree a n (length c))) [] s n (c ++ agent_cells a) d)

@@ -6,7 +6,9 @@ pub mod Firsts
 pub mod Limited
 pub mod Scoped
 pub mod Options
-pub mod Insertions
+pub mod Nested
+pub mod Arranging
+pub mod Indexed
 pub mod BuiltTrees
 pub mod Sizes
 pub mod Listings

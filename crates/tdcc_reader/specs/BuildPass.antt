@@ -1,7 +1,7 @@
 -- The pass that builds the drafts of a program: the drafts so far, the tokens of the constraint at hand, where the unit
 -- at hand of each open agent and of each open do and time begins, the names in scope, the cells, what waits for a later
 -- term, and how many cells are declared.
-use Rattle.std.specs.Prelude.{ℕ, ◌+◌, ◌-◌, min, ℤ, List, [], ◌∷◌, ◌++◌, length, insert, map, reverse}
+use Rattle.std.specs.Prelude.{ℕ, min, ℤ, List, [], ◌∷◌, ◌++◌, length, map}
 use Rattle.token_system.specs.declared.cell.Token.{Token}
 use Rattle.token_system.specs.declared.cell.Token.TheVariants as token
 use Rattle.program_grammar.specs.Terms.{Term}
@@ -12,13 +12,13 @@ use Rattle.program_grammar.specs.declared.parts.Part.TheVariants.{Declarations, 
 use Rattle.tdcc_reader.specs.declared.draft.DraftKind.{DraftKind}
 use Rattle.tdcc_reader.specs.declared.draft.DraftKind.TheVariants as kind
 use Rattle.tdcc_reader.specs.declared.build.Builder as code
-use Rattle.tdcc_reader.specs.declared.build.Scoped as code_scoped
 use Rattle.tdcc_reader.specs.declared.build.Held as code_held
 use Rattle.tdcc_reader.specs.declared.build.Held.TheVariants as held
 use Rattle.tdcc_reader.specs.Trees.{Ask}
 use Rattle.tdcc_reader.specs.Surfaces.{Placed, placed, cell_of, Declared, signal, number, cell_view}
-use Rattle.tdcc_reader.specs.Drafts.{Entry, entry, draft_view}
-use Rattle.tdcc_reader.specs.Passes.{Pass, by_term}
+use Rattle.tdcc_reader.specs.Drafts.{Entry, entry}
+use Rattle.tdcc_reader.specs.Growing.{Growing, growing, paired, wrapped}
+use Rattle.tdcc_reader.specs.Passes.{Pass, by_term, less_first}
 
 -- what waits for a later term: nothing, the cell of a token, the name of a number, or that with its least value
 pub data Waits : Type 0 where
@@ -46,11 +46,11 @@ waits_view (held.Subject cell) = Subject cell
 waits_view (held.Item name) = Item name.now
 waits_view (held.Low name value) = Low name.now value
 
-abbrev pub scoped_view : code_scoped.Scoped → Placed
-scoped_view s = placed s.name.now s.cell
+abbrev pub scoped_view : List ℕ × ℕ → Placed
+scoped_view s = placed s.0 s.1
 
 abbrev pub built_view : code.Builder → Built
-built_view b = built (map draft_view b.drafts.items) b.ask.items (reverse b.starts.items) (reverse (map scoped_view b.scope.items)) (map cell_view b.cells.items) (waits_view b.held) b.declared
+built_view b = built b.arrivals.drafts b.ask.items b.arrivals.starts (map scoped_view b.scope) (map cell_view b.cells.items) (waits_view b.held) b.declared
 
 -- a draft without a constraint, or with the one at hand
 abbrev pub puts : DraftKind → Built → Built
@@ -75,24 +75,22 @@ asks_waiting _ ts b = b
 abbrev pub begins : Built → Built
 begins b = built b.drafts b.ask (length b.drafts ∷ b.starts) b.scope b.cells b.waits b.declared
 
-abbrev pub less_first : {X : Type 0} → List X → List X
-less_first [] = []
-less_first (x ∷ xs) = xs
-
 abbrev pub ends : Built → Built
 ends b = built b.drafts b.ask (less_first b.starts) b.scope b.cells b.waits b.declared
 
+-- what has grown
+abbrev pub grows : Growing → Built → Built
+grows g b = built g.drafts b.ask g.starts b.scope b.cells b.waits b.declared
+
 -- the unit at hand is the left part of a par, and the next one begins
-abbrev pub next_unit : List ℕ → Built → Built
-next_unit [] b = b
-next_unit (k ∷ ks) b =
-    let at = min k (length b.drafts) in
-    built (insert b.drafts at (entry (kind.Par ((length b.drafts + 1) - at)) [])) b.ask ((length b.drafts + 1) ∷ ks) b.scope b.cells b.waits b.declared
+abbrev pub next_unit : Built → Built
+next_unit b = grows (paired b.starts (growing b.drafts b.starts)) b
 
 -- the unit at hand is the body of a form with the constraint at hand
-abbrev pub wraps : DraftKind → List ℕ → Built → Built
-wraps k [] b = b
-wraps k (at ∷ ks) b = built (insert b.drafts (min at (length b.drafts)) (entry k b.ask)) [] ks b.scope b.cells b.waits b.declared
+abbrev pub wraps : DraftKind → Built → Built
+wraps k b =
+    let g = wrapped (entry k b.ask) b.starts (growing b.drafts b.starts) in
+    built g.drafts [] g.starts b.scope b.cells b.waits b.declared
 
 -- the number of the next cell
 abbrev pub next_cell : List Declared → ℕ
@@ -160,7 +158,7 @@ takes_branch _ b = b
 -- a part takes a keyword or symbol
 abbrev pub takes_word : Part → Word → Built → Built
 takes_word OneUnit w b = takes_unit w b
-takes_word MoreUnits w b = next_unit b.starts b
+takes_word MoreUnits w b = next_unit b
 takes_word Branch w b = takes_branch w b
 takes_word TheDo w b = puts_asked kind.When b
 takes_word _ w b = b
@@ -174,8 +172,8 @@ leaves_built MoreUnits b = ends b
 leaves_built Bound b = asks_waiting b.waits (token.On ∷ []) b
 leaves_built EndTell b = puts_asked kind.Tell b
 leaves_built EndLocal b = leaves_scope b
-leaves_built EndWatch b = wraps kind.Watch b.starts b
-leaves_built EndTimed b = wraps kind.Time b.starts b
+leaves_built EndWatch b = wraps kind.Watch b
+leaves_built EndTimed b = wraps kind.Time b
 leaves_built _ b = b
 
 abbrev pub build_pass : Pass Built

@@ -8,10 +8,13 @@ pub mod Limits
 pub mod Passes
 pub mod LimitPass
 pub mod Scope
+pub mod Meanings
 pub mod NamingPass
 pub mod Trees
 pub mod Surfaces
 pub mod Drafts
+pub mod Growing
+pub mod Arrivals
 pub mod BuildPass
 pub mod Texts
 pub mod Parts

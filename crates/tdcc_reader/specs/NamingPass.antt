@@ -1,5 +1,5 @@
 -- The pass that looks at the names: those in scope, what waits for a later term, and the first fault.
-use Rattle.std.specs.Prelude.{ℕ, ℤ, List, [], ◌∷◌, map, reverse, Option}
+use Rattle.std.specs.Prelude.{ℕ, ℤ, List, [], ◌∷◌, map, Option}
 use Rattle.token_system.specs.declared.cell.Kind.{Kind}
 use Rattle.token_system.specs.declared.cell.Kind.TheVariants as kind
 use Rattle.program_grammar.specs.Terms.{Term}
@@ -8,11 +8,10 @@ use Rattle.program_grammar.specs.declared.parts.Part.TheVariants.{OneUnit, OneTo
 use Rattle.tdcc_reader.specs.declared.naming.NameFault.{NameFault}
 use Rattle.tdcc_reader.specs.declared.naming.Waiting.{Waiting}
 use Rattle.tdcc_reader.specs.declared.naming.Waiting.TheVariants as waiting
-use Rattle.tdcc_reader.specs.declared.naming.Known as code
 use Rattle.tdcc_reader.specs.declared.naming.Naming as pass
 use Rattle.tdcc_reader.specs.Limits.{first}
 use Rattle.tdcc_reader.specs.Scope.{Known, known, kind_of, signal_fault, number_fault, declared_fault, domain_fault, signal_use, any_use}
-use Rattle.tdcc_reader.specs.Passes.{Pass, by_term}
+use Rattle.tdcc_reader.specs.Passes.{Pass, by_term, less_first}
 
 pub record Names : Type 0 where
   pub scope : List Known
@@ -22,16 +21,12 @@ pub record Names : Type 0 where
 abbrev pub names : List Known → Waiting → Option NameFault → Names
 names s w f = record { scope = s; waiting = w; found = f }
 
--- what the code has of it; the newest name is its last one
-abbrev pub known_view : code.Known → Known
-known_view k = known k.name.now k.kind
+-- what the code has of it: a name, and the kind that it means
+abbrev pub known_view : List ℕ × Kind → Known
+known_view k = known k.0 k.1
 
 abbrev pub names_view : pass.Naming → Names
-names_view n = names (reverse (map known_view n.scope.items)) n.waiting n.found
-
-abbrev pub less_first : {X : Type 0} → List X → List X
-less_first [] = []
-less_first (x ∷ xs) = xs
+names_view n = names (map known_view n.scope) n.waiting n.found
 
 -- a fault, if none was found before
 abbrev pub note : Option NameFault → Names → Names

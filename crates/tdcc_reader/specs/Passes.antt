@@ -29,3 +29,8 @@ abbrev pub by_term : {S : Type 0} → (List ℕ → S) → (ℤ → S) → (Word
 by_term name number word (Name x) = name x
 by_term name number word (Number n) = number n
 by_term name number word t = word (class_of t)
+
+-- all but the first
+abbrev pub less_first : {X : Type 0} → List X → List X
+less_first [] = []
+less_first (x ∷ xs) = xs

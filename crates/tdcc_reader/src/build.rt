@@ -1,5 +1,5 @@
 // The drafts of a program, from its steps.
-ghost use Rattle.std.specs.Prelude.{◌≡◌, ◌∷◌, ◌≤◌, [], IfOk, OnOk, length, map, reverse};
+ghost use Rattle.std.specs.Prelude.{◌≡◌, ◌∷◌, ◌≤◌, [], IfOk, OnOk, length, map};
 ghost use Rattle.program_grammar.specs.Phrases.{Program};
 ghost use Rattle.program_grammar.specs.Programs.{Spells};
 ghost use Rattle.program_grammar.specs.Reading.{AreSteps};
@@ -12,21 +12,16 @@ ghost use Rattle.tdcc_reader.specs.Surfaces.{cell_of, cell_view, declared_as, nu
 ghost use Rattle.tdcc_reader.specs.TermViews.{term_view};
 ghost use Rattle.tdcc_reader.specs.declared.draft.DraftKind as DraftKind;
 
+use crate::arrivals::Arrivals;
 use crate::cells::{number_cell, signal_cell};
 use crate::draft::{Draft, DraftKind};
+use crate::scope::Scope;
 use crate::terms::{Term, term_at};
 use agent_core::{CellDecl, Name};
 use program_grammar::{Part, Step, Word, places_law};
 use std::alloc::{AllocError, Global};
 use std::mem;
 use token_system::{Cell, Token};
-
-/// A name in scope, and the number of its cell.
-#[derive(Clone, Copy, Debug, PartialEq, Eq)]
-struct Scoped<'a> {
-    name: &'a [u8],
-    cell: u32,
-}
 
 /// What a later lexeme completes.
 #[derive(Clone, Copy, Debug, PartialEq, Eq)]
@@ -43,48 +38,37 @@ enum Held<'a> {
 /// A program in the making.
 #[derive(Debug, Drop)]
 pub(crate) struct Builder<'a> {
-    pub(crate) drafts: Vec<Draft>,
+    pub(crate) arrivals: Arrivals,
     /// The tokens of the constraint at hand.
     ask: Vec<(u32, Token)>,
-    /// Where the unit at hand of each open agent, `do` and `time` begins.
-    starts: Vec<usize>,
-    scope: Vec<Scoped<'a>>,
+    scope: Scope<'a, u32>,
     pub(crate) cells: Vec<CellDecl>,
     held: Held<'a>,
     pub(crate) declared: usize,
 }
 
 /// The cell of a name in scope.
-fn cell_of(scope: &[Scoped<'_>], name: &[u8]) -> u32
-    ensures { result ≡ cell_of (reverse (map scoped_view scope.now)) name.now }
+fn cell_of<'a>(scope: &Scope<'a, u32>, name: &'a [u8]) -> u32
+    ensures { result ≡ cell_of (map scoped_view scope.now) name.now }
 {
-    let mut left = scope.len();
-    while left > 0 {
-        left -= 1;
-        if scope[left].name == name {
-            return scope[left].cell;
-        }
-    }
-    0
+    scope.meaning(name).unwrap_or(0)
 }
 
 impl<'a> Builder<'a> {
     fn put(&mut self, alloc: Global, kind: DraftKind) -> Result<(), AllocError>
         ensures { OnOk result (built_view self.new ≡ puts kind (built_view self.old)) }
     {
-        self.drafts.push(Draft {
+        self.arrivals.put(Draft {
             kind,
             ask: Vec::new(alloc),
-        })?;
-        Ok(())
+        })
     }
 
     fn put_asked(&mut self, alloc: Global, kind: DraftKind) -> Result<(), AllocError>
         ensures { OnOk result (built_view self.new ≡ puts_asked kind (built_view self.old)) }
     {
         let ask = mem::replace(&mut self.ask, Vec::new(alloc));
-        self.drafts.push(Draft { kind, ask })?;
-        Ok(())
+        self.arrivals.put(Draft { kind, ask })
     }
 
     fn ask(&mut self, cell: u32, token: Token) -> Result<(), AllocError>
@@ -121,41 +105,26 @@ impl<'a> Builder<'a> {
     fn begin(&mut self) -> Result<(), AllocError>
         ensures { OnOk result (built_view self.new ≡ begins (built_view self.old)) }
     {
-        self.starts.push(self.drafts.len())?;
-        Ok(())
+        self.arrivals.begin()
     }
 
     fn end(&mut self)
         ensures { built_view self.new ≡ ends (built_view self.old) }
     {
-        let _ = self.starts.pop();
+        self.arrivals.end();
     }
 
     fn next_unit(&mut self, alloc: Global) -> Result<(), AllocError>
-        ensures { OnOk result (built_view self.new ≡ next_unit (reverse self.old.starts.items) (built_view self.old)) }
+        ensures { OnOk result (built_view self.new ≡ next_unit (built_view self.old)) }
     {
-        if let Some(start) = self.starts.pop() {
-            let end = self.drafts.len();
-            let start = start.min(end);
-            let par = Draft {
-                kind: DraftKind::Par(end + 1 - start),
-                ask: Vec::new(alloc),
-            };
-            self.drafts.insert(start, par)?;
-            self.starts.push(self.drafts.len())?;
-        }
-        Ok(())
+        self.arrivals.next_unit(alloc)
     }
 
     fn wrap(&mut self, alloc: Global, kind: DraftKind) -> Result<(), AllocError>
-        ensures { OnOk result (built_view self.new ≡ wraps kind (reverse self.old.starts.items) (built_view self.old)) }
+        ensures { OnOk result (built_view self.new ≡ wraps kind (built_view self.old)) }
     {
-        if let Some(start) = self.starts.pop() {
-            let start = start.min(self.drafts.len());
-            let ask = mem::replace(&mut self.ask, Vec::new(alloc));
-            self.drafts.insert(start, Draft { kind, ask })?;
-        }
-        Ok(())
+        let ask = mem::replace(&mut self.ask, Vec::new(alloc));
+        self.arrivals.wrap(Draft { kind, ask })
     }
 
     /// The number of the next cell.
@@ -169,7 +138,7 @@ impl<'a> Builder<'a> {
         ensures { OnOk result (built_view self.new ≡ declares name.now (declared_as name.now cell) (built_view self.old)) }
     {
         let number = self.next_cell();
-        self.scope.push(Scoped { name, cell: number })?;
+        self.scope.enter(name, number)?;
         self.cells.push(CellDecl {
             name: Name::make(name.to_vec(alloc)?),
             cell,
@@ -218,7 +187,7 @@ impl<'a> Builder<'a> {
     fn leave_scope(&mut self)
         ensures { built_view self.new ≡ leaves_scope (built_view self.old) }
     {
-        let _ = self.scope.pop();
+        self.scope.leave();
     }
 
     fn hold(&mut self, held: Held<'a>)
@@ -361,15 +330,13 @@ fn build_steps<'a>(
     ensures { IfOk result (λ b. built_view b ≡ over_steps build_pass (map term_view terms.now) steps.now nothing_built) }
 {
     let mut builder = Builder {
-        drafts: Vec::new(alloc),
+        arrivals: Arrivals::new(alloc)?,
         ask: Vec::new(alloc),
-        starts: Vec::new(alloc),
-        scope: Vec::new(alloc),
+        scope: Scope::new(alloc),
         cells: Vec::new(alloc),
         held: Held::Nothing,
         declared: 0,
     };
-    builder.starts.push(0)?;
     for step in steps {
         match *step {
             Step::Took(part, place) => builder.take(alloc, part, term_at(terms, place))?,

@@ -21,7 +21,8 @@ pub(crate) fn finish(alloc: Global, built: Builder<'_>) -> Result<Parts, ReadFau
         → IfOk result (λ parts. IsSurfaceOf p (surface_of parts)) }
     ensures fault { IfErr result (λ fault. fault ≡ ReadFault.Memory) }
 {
-    let forms = forms(alloc, &built.drafts)?;
+    let drafts = built.arrivals.in_preorder(alloc)?;
+    let forms = forms(alloc, &drafts)?;
     Ok(Parts {
         cells: built.cells,
         declared: built.declared as u32,

@@ -2,6 +2,7 @@
 //! refusal.
 #![tactic(auto)]
 
+mod arrivals;
 mod build;
 mod cells;
 mod dialect;
@@ -14,6 +15,7 @@ mod limits;
 mod naming;
 mod parsing;
 mod reader;
+mod scope;
 mod surface;
 mod terms;
 #[cfg(test)]

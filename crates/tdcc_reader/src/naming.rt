@@ -1,6 +1,6 @@
 // The names of a program: the first one that is declared twice, not at all or as something else, or the first empty
 // domain.
-ghost use Rattle.std.specs.Prelude.{◌≡◌, IfErr, IfOk, None, OnOk, [], map, reverse};
+ghost use Rattle.std.specs.Prelude.{◌≡◌, IfErr, IfOk, None, OnOk, [], map};
 ghost use Rattle.program_grammar.specs.Phrases.{Program};
 ghost use Rattle.program_grammar.specs.Programs.{Spells};
 ghost use Rattle.program_grammar.specs.Reading.{AreSteps};
@@ -13,6 +13,7 @@ ghost use Rattle.tdcc_reader.specs.Scope.{any_use, double_fault, kind_of, number
 ghost use Rattle.tdcc_reader.specs.TermViews.{term_view};
 
 use crate::fault::ReadFault;
+use crate::scope::Scope;
 use crate::terms::{Term, term_at};
 use program_grammar::{Part, Step, places_law};
 use std::alloc::{AllocError, Global};
@@ -25,13 +26,6 @@ pub(crate) enum NameFault {
     EmptyDomain(u32),
     UnknownName(u32),
     WrongKind(u32),
-}
-
-/// A name in scope, and the kind of its cell.
-#[derive(Clone, Copy, Debug, PartialEq, Eq)]
-struct Known<'a> {
-    name: &'a [u8],
-    kind: Kind,
 }
 
 /// What a later lexeme decides.
@@ -47,23 +41,16 @@ enum Waiting {
 /// How far the names are looked at.
 #[derive(Debug, Drop)]
 struct Naming<'a> {
-    scope: Vec<Known<'a>>,
+    scope: Scope<'a, Kind>,
     waiting: Waiting,
     found: Option<NameFault>,
 }
 
 /// The kind of a name's cell, where it is in scope.
-fn kind_of(scope: &[Known<'_>], name: &[u8]) -> Option<Kind>
-    ensures { result ≡ kind_of (reverse (map known_view scope.now)) name.now }
+fn kind_of<'a>(scope: &Scope<'a, Kind>, name: &'a [u8]) -> Option<Kind>
+    ensures { result ≡ kind_of (map known_view scope.now) name.now }
 {
-    let mut left = scope.len();
-    while left > 0 {
-        left -= 1;
-        if scope[left].name == name {
-            return Some(scope[left].kind);
-        }
-    }
-    None
+    scope.meaning(name)
 }
 
 /// A use of a name that is not in scope.
@@ -152,7 +139,7 @@ impl<'a> Naming<'a> {
         if kind_of(&self.scope, name).is_some() {
             self.note(Some(NameFault::DoubleName(lexeme)));
         }
-        self.scope.push(Known { name, kind })?;
+        self.scope.enter(name, kind)?;
         Ok(())
     }
 
@@ -176,7 +163,7 @@ impl<'a> Naming<'a> {
     fn leave_scope(&mut self)
         ensures { names_view self.new ≡ leaves_scope (names_view self.old) }
     {
-        let _ = self.scope.pop();
+        self.scope.leave();
     }
 
     fn take_name(&mut self, lexeme: u32, part: Part, name: &'a [u8]) -> Result<(), AllocError>
@@ -245,7 +232,7 @@ fn first_fault(
     ensures { IfOk result (λ found. found ≡ (over_steps naming_pass (map term_view terms.now) steps.now (names [] Waiting.Nothing None)).found) }
 {
     let mut naming = Naming {
-        scope: Vec::new(alloc),
+        scope: Scope::new(alloc),
         waiting: Waiting::Nothing,
         found: None,
     };

@@ -6,7 +6,7 @@ use Rattle.tdcc_reader.proofs.Finished.{ready_whole, ready_surface}
 use Rattle.tdcc_reader.proofs.finish.finish.Goals as goal
 
 pub forms-requires : goal.forms-requires
-forms-requires c = let (dialect, text, p, r) = c.requires in subst (All IsWholeDraft) (sym c.deref.ensures.value) (ready_whole dialect text p (built_view c.args.built) c.args.built.drafts.items r refl)
+forms-requires c = let (dialect, text, p, r) = c.requires in subst (All IsWholeDraft) (sym c.deref.ensures.value) (ready_whole dialect text p (built_view c.args.built) c.in_ok-drafts.drafts.items r c.in_ok-drafts.ensures)
 
 pub returns-clause-found : goal.returns-clause-found
-returns-clause-found c = λ dialect text p r. ready_surface dialect text p (built_view c.args.built) c.args.built.cells.items c.in_ok-forms.forms.items r refl (c.in_ok-forms.ensures ∙ ap (λ l. forms_at 0 (map draft_view l)) c.deref.ensures.value)
+returns-clause-found c = λ dialect text p r. ready_surface dialect text p (built_view c.args.built) c.args.built.cells.items c.in_ok-forms.forms.items r refl (c.in_ok-forms.ensures ∙ ap (λ l. forms_at 0 (map draft_view l)) c.deref.ensures.value ∙ ap (forms_at 0) c.in_ok-drafts.ensures)
