@@ -152,7 +152,7 @@ module _ (p : CoreProgram) where
       (started-of a z (suc n) b (s + 1) true first (λ e. absurd (true_false e)))
   started-of (Hence a) (w ∷ z) n b s later first due =
       let from : List Valuation → ℕ = λ y. s + 1 + length z - length y in
-      Each-flat (λ c. In c (closure (suc n) b ∷ bodies a (suc n) b)) (λ y. started p y a (suc n) b (s + 1 + length z - length y))
+      Each-flat (λ c. In c (closure (suc n) b ∷ bodies a (suc n) b)) (λ y. started p y a (suc n) b (from y))
       (λ y. Each-map (λ c. In c (may_start y a (suc n) b)) (λ c. In c (closure (suc n) b ∷ bodies a (suc n) b)) (may_start-all y a (suc n) b) (started p y a (suc n) b (from y))
       (started-of a y (suc n) b (from y) true first (λ e. absurd (true_false e)))) (suffixes z)
 
