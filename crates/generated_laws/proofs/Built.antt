@@ -36,7 +36,7 @@ unfolding declared_levels
 levels_declared = refl
 
 -- its sketch is that of its parts
-one_sketch : (n : ℕ) (d : Sketch) → IsSketchOf (surface n) d → d ≡ parts_sketch 0 (parts n)
+pub one_sketch : (n : ℕ) (d : Sketch) → IsSketchOf (surface n) d → d ≡ parts_sketch 0 (parts n)
 one_sketch n d is =
     let same : is.tree ≡ tree n = one_tree is.tree (tree n) (sym is.written) in
     is.sketched ∙ ap (λ (k : ℕ). sketch_of k 0 is.tree) cells_many_declared ∙ ap (sketch_of 40 0) same

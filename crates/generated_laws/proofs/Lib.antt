@@ -10,3 +10,5 @@ pub mod PartStrata
 pub mod Built
 pub mod SignalLines
 pub mod Parted
+pub mod FewLeaves
+pub mod PartNews

@@ -2,6 +2,7 @@ use Rattle.generated_laws.proofs.Accepted.{text_read, line_read}
 use Rattle.generated_laws.proofs.Built.{small}
 use Rattle.generated_laws.proofs.Parted.{parted}
 use Rattle.generated_laws.proofs.SignalLines.{trace_given}
+use Rattle.generated_laws.proofs.PartNews.{few, few_ran}
 use Rattle.generated_laws.proofs.laws.generated_law.Goals as goal
 
 pub returns-clause-reads : goal.returns-clause-reads
@@ -18,3 +19,9 @@ returns-clause-parted c = parted
 
 pub returns-clause-lines : goal.returns-clause-lines
 returns-clause-lines c = trace_given
+
+pub returns-clause-few : goal.returns-clause-few
+returns-clause-few c = few
+
+pub returns-clause-few_ran : goal.returns-clause-few_ran
+returns-clause-few_ran c = few_ran
