@@ -4,6 +4,7 @@ pub mod Commands
 pub mod Counting
 pub mod CourseSteps
 pub mod DeclaredLines
+pub mod GeneratedRuns
 pub mod InstantNets
 pub mod RunAnswers
 pub mod RunSteps

@@ -26,7 +26,7 @@ use Rattle.tdcc_tool.specs.declared.end.End.TheVariants as ends
 use Rattle.trace_text.specs.Inputs.{GivesInput}
 use Rattle.tdcc_tool.specs.RunEnds.{EndsBy, status_of}
 use Rattle.tdcc_tool.specs.Answers.{GiveInputs, KeepsLimits, RunAnswer, AnswersTo, AnswersBy, IsCommand}
-use Rattle.tdcc_tool.specs.Completeness.{CallsRun, IsRunnable, EndsWhole, IsRoomFor}
+use Rattle.tdcc_tool.specs.Completeness.{CallsRun, RunsThrough, IsRunnable, EndsWhole, IsRoomFor}
 use Rattle.tdcc_tool.proofs.AcceptedPrograms.{built_program, one_built, built_no_fault}
 use Rattle.tdcc_tool.proofs.OneAnswer.{one_command}
 use Rattle.tdcc_tool.proofs.RunAnswers.{front_goes_on, within as inputs_within, same_front, run-front}
@@ -60,35 +60,35 @@ module _ (bytes : List ℕ) where
   lines = lines_of (trace_of bytes)
 
   -- a run that may go to its end ends with the status of one that did
-  whole_run : (writing : Writing) (p : CoreProgram) (s : Status) (o e : List ℕ) (table : List ℕ) → IsBuilt (text_of bytes) p → Stratifies p table → (words : List (String Global)) (r : IsRunnable words bytes) → RunAnswer p writing r.limits lines s o e → s ≡ statuses.Ok
-  whole_run writing p s o e table built fits words r answer =
+  whole_run : (writing : Writing) (p : CoreProgram) (s : Status) (o e : List ℕ) (table : List ℕ) → IsBuilt (text_of bytes) p → Stratifies p table → (limits : Limits) (r : RunsThrough limits bytes) → RunAnswer p writing limits lines s o e → s ≡ statuses.Ok
+  whole_run writing p s o e table built fits limits r answer =
       answer.status_is ∙ ap status_of (go r.program r.outputs (one_built (text_of bytes) r.program p r.accepted.built built) r.given r.run r.within)
     where
-      go : (q : CoreProgram) (outputs : List Valuation) → q ≡ p → GiveInputs q lines r.inputs → IsRun q r.inputs outputs → KeepsLimits q r.limits outputs → answer.end ≡ ends.Whole
+      go : (q : CoreProgram) (outputs : List Valuation) → q ≡ p → GiveInputs q lines r.inputs → IsRun q r.inputs outputs → KeepsLimits q limits outputs → answer.end ≡ ends.Whole
       go q outputs same given run within =
           let is = built_program (text_of bytes) p built in
           let given' = subst (λ (x : CoreProgram). GiveInputs x lines r.inputs) same given in
           let run' = subst (λ (x : CoreProgram). IsRun x r.inputs outputs) same run in
-          let within' = subst (λ (x : CoreProgram). KeepsLimits x r.limits outputs) same within in
+          let within' = subst (λ (x : CoreProgram). KeepsLimits x limits outputs) same within in
           let le : length answer.ins ≤ length r.inputs = front_long p lines r.inputs (length answer.ins) given' (inputs_within p lines answer.ins answer.given) in
           let all : take (length r.inputs) lines ≡ lines = take_all (length r.inputs) lines (let e = given_long p lines r.inputs given' in omega arith) in
           let front = same_front p lines answer.ins r.inputs answer.given (subst (λ (ls : List (List ℕ)). GiveInputs p ls r.inputs) (sym all) given') le in
           let outs : answer.outs ≡ take (length answer.ins) outputs = one_run p table is fits answer.ins answer.outs (take (length answer.ins) outputs) answer.run
           (subst (λ (xs : List Valuation). IsRun p xs (take (length answer.ins) outputs)) (sym front) (run-front p r.inputs outputs (length answer.ins) le run')) in
-          ends_whole p table is fits r.limits lines r.inputs outputs (length answer.ins) answer.end given' run' r.few within' le (subst (λ (z : List Valuation). EndsBy p r.limits lines z answer.end) outs answer.ends)
+          ends_whole p table is fits limits lines r.inputs outputs (length answer.ins) answer.end given' run' r.few within' le (subst (λ (z : List Valuation). EndsBy p limits lines z answer.end) outs answer.ends)
 
-  whole_status : (writing : Writing) (words : List (String Global)) (r : IsRunnable words bytes) (s : Status) (o e : List ℕ) → AnswersTo (tasks.Run writing r.limits) bytes s o e → s ≡ statuses.Ok
-  whole_status writing words r s o e (inl x) = absurd (built_no_fault (text_of bytes) r.program x.fault r.accepted.built x.has)
-  whole_status writing words r s o e (inr (p, built, inl x)) =
+  pub whole_status : (writing : Writing) (limits : Limits) → RunsThrough limits bytes → (s : Status) (o e : List ℕ) → AnswersTo (tasks.Run writing limits) bytes s o e → s ≡ statuses.Ok
+  whole_status writing limits r s o e (inl x) = absurd (built_no_fault (text_of bytes) r.program x.fault r.accepted.built x.has)
+  whole_status writing limits r s o e (inr (p, built, inl x)) =
       absurd (x.case.none r.accepted.table (subst (λ (q : CoreProgram). Stratifies q r.accepted.table) (one_built (text_of bytes) r.program p r.accepted.built built) r.accepted.stratified))
-  whole_status writing words r s o e (inr (p, built, inr (table, fits, answer))) = whole_run writing p s o e table built fits words r answer
+  whole_status writing limits r s o e (inr (p, built, inr (table, fits, answer))) = whole_run writing p s o e table built fits limits r answer
 
   called_whole : (words : List (String Global)) (command : Command) (s : Status) (o e : List ℕ) → IsCommand command words → AnswersBy command bytes s o e → IsRunnable words bytes → s ≡ statuses.Ok
   called_whole words command s o e is h r = go r.calls
     where
       go : CallsRun r.limits words → s ≡ statuses.Ok
-      go (inl run) = whole_status Stores words r s o e (subst (λ (c : Command). AnswersBy c bytes s o e) (one_command words command (commands.Run r.limits) is run) h)
-      go (inr report) = whole_status Reports words r s o e (subst (λ (c : Command). AnswersBy c bytes s o e) (one_command words command (commands.Report r.limits) is report) h)
+      go (inl run) = whole_status Stores r.limits r.through s o e (subst (λ (c : Command). AnswersBy c bytes s o e) (one_command words command (commands.Run r.limits) is run) h)
+      go (inr report) = whole_status Reports r.limits r.through s o e (subst (λ (c : Command). AnswersBy c bytes s o e) (one_command words command (commands.Report r.limits) is report) h)
 
 -- an answer to such an input is its end
 pub runs_whole : (words : List (String Global)) (command : Command) (left : Option (List ℕ)) (s : Status) (o e : List ℕ) (source_failed sink_failed : Type 0) → IsCommand command words → IfSome left (λ bytes. AnswersBy command bytes s o e)

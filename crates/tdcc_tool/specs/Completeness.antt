@@ -17,10 +17,8 @@ use Rattle.tdcc_tool.specs.Answers.{GiveInputs, KeepsLimits, IsCommand}
 abbrev pub CallsRun : Limits → List (String Global) → Type 0
 CallsRun limits words = IsCommand (Run limits) words ⊎ IsCommand (Report limits) words
 
--- the words are those of a run, the text is a program that runs, each line of the trace, of which there are not too many, gives an input, and the run on these keeps the limits
-pub record IsRunnable (words : List (String Global)) (bytes : List ℕ) : Type 0 where
-  pub limits : Limits
-  pub calls : CallsRun limits words
+-- the text is a program that runs, each line of the trace, of which there are not too many, gives an input, and the run on these keeps the limits
+pub record RunsThrough (limits : Limits) (bytes : List ℕ) : Type 0 where
   pub program : CoreProgram
   pub accepted : Accepts (text_of bytes) program
   pub inputs : List Valuation
@@ -29,6 +27,12 @@ pub record IsRunnable (words : List (String Global)) (bytes : List ℕ) : Type 0
   pub outputs : List Valuation
   pub run : IsRun program inputs outputs
   pub within : KeepsLimits program limits outputs
+
+-- the words are those of a run, which the bytes go through within its limits
+pub record IsRunnable (words : List (String Global)) (bytes : List ℕ) : Type 0 where
+  pub limits : Limits
+  pub calls : CallsRun limits words
+  pub through : RunsThrough limits bytes
 
 -- the run went to its end, or memory ran out, or the source or the sink failed for this reason
 abbrev pub EndsWhole : Status → Type 0 → Type 0 → Type 0

@@ -1,9 +1,9 @@
 -- What each command does with which bytes. This project's own.
-use Rattle.std.specs.Prelude.{ℕ, ◌≤◌, List, ◌++◌, codes}
+use Rattle.std.specs.Prelude.{ℕ, ◌≤◌, List}
 use Rattle.command_words.specs.declared.command.Command.{Command}
 use Rattle.command_words.specs.declared.command.Command.TheVariants as commands
 use Rattle.command_words.specs.declared.settings.Limits.{Limits}
-use Rattle.trace_text.specs.Generated.{program_text, trace_text}
+use Rattle.generated_laws.specs.GeneratedInputs.{input_bytes}
 use Rattle.tdcc_tool.specs.declared.task.Task.{Task}
 use Rattle.tdcc_tool.specs.declared.task.Task.TheVariants as tasks
 use Rattle.tdcc_tool.specs.declared.writing.Writing.TheVariants.{Stores, Reports, Summary}
@@ -19,13 +19,9 @@ task_of commands.Check = tasks.Check
 task_of commands.Core = tasks.Core
 task_of (commands.Generate n) = tasks.Run Summary usual_limits
 
--- the generated program and trace, with the mark between them
-abbrev pub generated : ℕ → List ℕ
-generated n = program_text n ++ codes "\n%%\n" ++ trace_text n
-
--- a generated run reads what is generated, and all others the bytes of the source
+-- a generated run reads a generated program and trace, with the mark between them, and all others the bytes of the source
 abbrev pub input_of : Command → List ℕ → List ℕ
-input_of (commands.Generate n) bytes = generated n
+input_of (commands.Generate n) bytes = input_bytes n
 input_of _ bytes = bytes
 
 -- the command generates its input

@@ -1,5 +1,5 @@
 //! What a command answers to a program text, and the trace behind it.
-ghost use Rattle.std.specs.Prelude.{◌≡◌, ◌≤◌, [], IfOk, IfSome, OnSome, IsErrOf, IsTrue, Some};
+ghost use Rattle.std.specs.Prelude.{◌≡◌, ◌≤◌, ℕ, List, [], IfOk, IfSome, OnSome, IsErrOf, IsTrue, Some};
 ghost use Rattle.tdcc_base.specs.Causes.{Rose};
 ghost use Rattle.tdcc_base.specs.Promises.{StaysSteady};
 ghost use Rattle.tdcc_base.specs.Waiting.{waiting, source_of, IsFirst, name_of};
@@ -76,6 +76,8 @@ pub fn answer_command<S: Source>(
     ensures answer { IfOk result (λ a. IfSome (S.left source.old) (λ bytes. AnswersBy command bytes a.status a.out.items a.err.items)) }
     ensures ended { IfOk result (λ a. ReadsTrace command → a.status ≡ Status.Ok → OnSome (S.left source.old) (S.left source.new ≡ Some [])) }
     ensures generated { IsGenerated command → source.new ≡ source.old }
+    ensures made { (bytes : List ℕ) → IsGenerated command → IfOk result (λ a. AnswersBy command bytes a.status a.out.items a.err.items) }
+    ensures unread { IsGenerated command → IsErrOf result Stop.Read → ⊥ }
     ensures command_end { IfOk result (λ a. IsCommandEnd a.status) }
     ensures read { IsErrOf result Stop.Read → Rose (S.faults source.old) (S.faults source.new) }
     ensures steady { IsTrue (S.steady source.old) → IsErrOf result Stop.Read → ⊥ }

@@ -1,8 +1,8 @@
 //! What `gen` answers: it runs a program that it generates.
 ghost use Rattle.std.specs.Prelude.{◌≡◌, IfOk, IsErrOf};
+ghost use Rattle.generated_laws.specs.GeneratedInputs.{input_bytes};
 ghost use Rattle.tdcc_tool.specs.Answers.{AnswersTo};
 ghost use Rattle.tdcc_tool.specs.Ends.{IsCommandEnd};
-ghost use Rattle.tdcc_tool.specs.Tasks as tasks;
 ghost use Rattle.tdcc_tool.specs.Tasks.{HasNetLimit};
 
 use crate::answer::{Answer, Stop};
@@ -15,7 +15,7 @@ use trace_text::generate;
 
 /// The program and the trace that are generated from the number, with the mark between them.
 fn generated(alloc: Global, number: u32) -> Result<Vec<u8>, Memory>
-    ensures { IfOk result (λ bytes. bytes.items ≡ tasks.generated number) }
+    ensures { IfOk result (λ bytes. bytes.items ≡ input_bytes number) }
 {
     let (mut bytes, trace) = generate(alloc, number)?;
     bytes.extend_from_slice(b"\n%%\n")?;
@@ -26,7 +26,7 @@ fn generated(alloc: Global, number: u32) -> Result<Vec<u8>, Memory>
 /// Answers what is generated from the number, which is read from memory.
 pub fn generated_answer(alloc: Global, number: u32, task: Task) -> Result<Answer, Stop>
     requires { HasNetLimit task }
-    ensures answer { IfOk result (λ a. AnswersTo task (tasks.generated number) a.status a.out.items a.err.items) }
+    ensures answer { IfOk result (λ a. AnswersTo task (input_bytes number) a.status a.out.items a.err.items) }
     ensures command_end { IfOk result (λ a. IsCommandEnd a.status) }
     ensures read { IsErrOf result Stop.Read → ⊥ }
 {

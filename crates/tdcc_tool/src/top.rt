@@ -59,6 +59,10 @@ pub fn tdcc<R: Threads + Sync, S: Source, K: Sink, E: Sink, G: Gate>(
     ensures roomy { (bytes : List ℕ) (s : Status) (o e : List ℕ) → S.left source.old ≡ Some bytes → Answers words.now bytes s o e →
         IsRoomFor (K.room out.old) o → result ≡ Status.Write → ⊥ }
 
+    // A generated run goes to its end, unless memory runs out or `out` fails.
+    ensures generated_whole { (command : Command) → IsCommand command words.now → IsGenerated command →
+        EndsWhole result ⊥ (Rose (K.faults out.old) (K.faults out.new)) }
+
     // Words that are none of the tool's.
     ensures usage { IsNoCommand words.now ↔ (result ≡ Status.Usage) }
     ensures usage_source { result ≡ Status.Usage → source.new ≡ source.old }

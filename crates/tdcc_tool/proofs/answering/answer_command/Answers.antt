@@ -1,4 +1,4 @@
-use Rattle.std.proofs.Common.{rules, ◌≡◌, [], Some}
+use Rattle.std.proofs.Common.{◌≡◌, [], Some}
 use Rattle.std.specs.Prelude.{OnSome}
 use Rattle.tdcc_base.specs.declared.status.Status.TheVariants.{Ok as Whole}
 use Rattle.tdcc_tool.proofs.Commands.{answered_by, ended_by, not_generated}
@@ -13,6 +13,8 @@ returns-in_default g c =
       answer = answered_by c.args.command c.task_of-in_default.result (g.S.Source.left c.args.source.now) c.answer.result same not k.answer;
       ended = ended_by c.args.command c.task_of-in_default.result (λ a. a.status ≡ Whole → OnSome (g.S.Source.left c.args.source.now) (g.S.Source.left c.answer.new.source ≡ Some [])) c.answer.result same k.ended;
       generated = λ is. absurd (not is);
+      made = λ bytes is. absurd (not is);
+      unread = λ is. absurd (not is);
       command_end = k.command_end;
       read = k.read;
       steady = k.steady;

@@ -7,6 +7,7 @@ use Rattle.command_words.specs.declared.command.Command.TheVariants.{Run, Report
 use Rattle.tdcc_tool.specs.Answers.{IsCommand}
 use Rattle.tdcc_tool.proofs.Texts.{IfSome-all, IfSome-map, IfSome-at, true_and_false}
 use Rattle.tdcc_tool.proofs.Commands.{has_net_limit}
+use Rattle.tdcc_tool.proofs.GeneratedRuns.{generated_whole}
 use Rattle.tdcc_tool.proofs.OneAnswer.{one_answer}
 use Rattle.tdcc_tool.proofs.WholeRuns.{runs_whole, no_room}
 use Rattle.tdcc_tool.proofs.top.tdcc.Goals as goal
@@ -29,6 +30,10 @@ pub returns-in-Ok-write_all-clause-whole : goal.returns-in-Ok-write_all-clause-w
 returns-in-Ok-write_all-clause-whole g c =
     let called : IsCommand c.in-Some.command c.args.words.now = c.in-Some.ensures in
     runs_whole c.args.words.now c.in-Some.command (g.S.Source.left c.args.source.now) c.in-Ok.answer.status c.in-Ok.answer.out.items _ _ _ called c.in-Ok.ensures.answer
+
+pub returns-in-Ok-write_all-clause-generated_whole : goal.returns-in-Ok-write_all-clause-generated_whole
+returns-in-Ok-write_all-clause-generated_whole g c =
+    generated_whole c.args.words.now c.in-Some.command c.in-Ok.answer.status c.in-Ok.answer.out.items c.in-Ok.answer.err.items _ _ c.in-Some.ensures c.in-Ok.ensures.made
 
 pub returns-in-Ok-clause-roomy : goal.returns-in-Ok-clause-roomy
 returns-in-Ok-clause-roomy g c bytes s o e known answer room is =
