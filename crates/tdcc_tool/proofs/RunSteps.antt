@@ -1,6 +1,6 @@
 -- How a run over the lines of a trace begins, goes on and ends, by its course.
 use Rattle.std.proofs.Common.{◌≡◌, ◌≢◌, inl, inr, ℕ, suc, ◌<◌, ◌≤◌, Bool, true, false, cond, List, [], ◌∷◌, ◌++◌, length, take, Some, None, refl, sym, ap, ◌∙◌, subst, arith, length-append, append_assoc}
-use Rattle.std.specs.Prelude.{slice_get, Option, IfSome, Result, Ok, Err, ◌==◌}
+use Rattle.std.specs.Prelude.{slice_get, Option, IfSome, Ok, Err, ◌==◌}
 use Rattle.std.proofs.lemmas.List.{append-nil}
 use Rattle.std.proofs.Math.Seq.{take-append_seam}
 use Rattle.command_words.specs.declared.settings.Limits.{Limits}

@@ -1,5 +1,5 @@
 -- Words that call the same commands have the same answers.
-use Rattle.std.proofs.Common.{◌≡◌, ℕ, List, ◌++◌, map, sym, subst, inl, inr}
+use Rattle.std.proofs.Common.{ℕ, List, ◌++◌, map, sym, subst, inl, inr}
 use Rattle.std.specs.Prelude.{String, string_bytes}
 use Rattle.std.specs.declared.alloc.Global.{Global}
 use Rattle.command_words.specs.Words.{CallAlike, SetsWorkers}

@@ -1,7 +1,6 @@
 -- What one line of a trace does to the course of a run.
-use Rattle.std.specs.Prelude.{◌≡◌, ◌≢◌, ℕ, ◌<◌, ◌≤◌, List, [], ◌∷◌, ◌++◌, length, IfSome}
+use Rattle.std.specs.Prelude.{◌≡◌, ◌≢◌, ℕ, ◌<◌, ◌≤◌, List, [], ◌∷◌, ◌++◌, length}
 use Rattle.token_system.specs.Stores.{Valuation}
-use Rattle.agent_core.specs.Programs.{CoreProgram}
 use Rattle.agent_core.specs.Closures.{roots}
 use Rattle.agent_core.specs.Leaves.{leaves}
 use Rattle.instant_net.specs.Nets.{Flat}

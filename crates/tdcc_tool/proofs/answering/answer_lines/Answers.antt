@@ -1,14 +1,12 @@
-use Rattle.std.proofs.Common.{rules, List, ℕ, Ok, sym, subst, ap}
+use Rattle.std.proofs.Common.{rules, List, ℕ, sym, subst}
 use Rattle.std.specs.Prelude.{◌≢◌, IfOk, IfSome}
-use Rattle.tdcc_base.specs.declared.stops.ReadStop.TheVariants.{TooLong}
-use Rattle.tdcc_base.specs.Texts.{ReadsText}
 use Rattle.tdcc_base.specs.Waiting.{waiting, text_read}
 use Rattle.tdcc_tool.specs.declared.task.Task.{Task}
 use Rattle.tdcc_reader.specs.declared.fault.ReadFault.TheVariants.{Memory}
 use Rattle.tdcc_tool.specs.Accepted.{IsBuilt}
 use Rattle.tdcc_tool.specs.TextFaults.{HasFault}
 use Rattle.tdcc_tool.specs.Answers.{AnswersTo}
-use Rattle.tdcc_tool.proofs.TextAnswers.{refuses, refuses_long, answers_run, answers_text}
+use Rattle.tdcc_tool.proofs.TextAnswers.{refuses, refuses_long, answers_run}
 use Rattle.tdcc_tool.proofs.answering.answer_lines.Goals as goal
 
 pub returns-in-Err-TooLong-clause-answer : goal.returns-in-Err-TooLong-clause-answer

@@ -1,4 +1,4 @@
-use Rattle.std.proofs.Common.{List, ℕ, refl, sym, ap, ◌∙◌, subst, arith}
+use Rattle.std.proofs.Common.{List, ℕ, refl, ◌∙◌, subst, arith}
 use Rattle.tdcc_base.specs.Waiting.{waiting, line_read}
 use Rattle.tdcc_tool.specs.Steps.{Goes, Ends}
 use Rattle.tdcc_tool.proofs.RunSteps.{progress-start, ended_whole, ended_at, ended_long, goes_on}
