@@ -1,4 +1,5 @@
 pub mod Lists
+pub mod LocalCells
 pub mod Counts
 pub mod Grown
 pub mod Atoms

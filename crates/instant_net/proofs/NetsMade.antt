@@ -7,22 +7,28 @@ use Rattle.agent_core.specs.declared.node.Closure.{Closure}
 use Rattle.agent_core.specs.Programs.{CoreProgram}
 use Rattle.agent_core.specs.Facts.{IsProgram}
 use Rattle.agent_laws.specs.Laws.{AreClosures}
+use Rattle.instant_net.specs.declared.locals.Local.{Local}
 use Rattle.instant_net.specs.declared.parts.NetCell.{NetCell}
 use Rattle.instant_net.specs.declared.parts.NetGuard.{NetGuard}
 use Rattle.instant_net.specs.declared.parts.NetLeaf.{NetLeaf}
+use Rattle.instant_net.specs.Locals.{AreLocalsOf}
 use Rattle.instant_net.specs.NamedLeaves.{Leaf, names_of}
 use Rattle.instant_net.specs.Nets.{Flat, named_leaf, net_leaves, LeafIsWhole}
 use Rattle.instant_net.specs.Opened.{IsCellOf, IsNetOf, IsNet, strata_of}
 use Rattle.instant_net.specs.Programs.{root_leaves, root_occurrences}
-use Rattle.instant_net.specs.Walks.{IsNamed, Grown}
+use Rattle.instant_net.specs.Walks.{AreNamed, IsNamed, Grown}
 use Rattle.instant_net.specs.Collecting.{AreCellsFor}
 use Rattle.instant_net.proofs.Counts.{length-map}
 use Rattle.instant_net.proofs.Grown.{grown-all, grown-guard, grown-leaf, grown-over}
 use Rattle.instant_net.proofs.Lists.{All-by_get}
 
--- the cells are those of their names
-pub cells-named : (p : CoreProgram) (table : List ℕ) (ls : List Leaf) (cells : List NetCell) → AreCellsFor p table ls cells → All (IsNamed p) cells
-cells-named p table ls cells h = All-weaker (IsCellOf p table) (IsNamed p) (λ c x. record { decl = x.decl; named = x.named; cell = x.cell }) cells h.each
+-- the cells are those of their names, the declared ones by number
+pub cells-named : (p : CoreProgram) (table : List ℕ) (ls : List Leaf) (cells : List NetCell) (locals : List Local) → AreCellsFor p table ls cells → AreLocalsOf p locals → AreNamed p locals cells
+cells-named p table ls cells locals h all = record {
+  each = All-weaker (IsCellOf p table) (IsNamed p) (λ c x. record { decl = x.decl; named = x.named; cell = x.cell }) cells h.each;
+  declared = λ k lt. let at = h.declared k lt in record { found = at.0; stands = at.1; named = at.2 };
+  locals_are = all;
+}
 
 module _ (p : CoreProgram) (table : List ℕ) (rs : List Closure) (t strata : ℕ) (cells : List NetCell) (guards : List NetGuard) (leaves : List NetLeaf) (is : IsProgram p) (own : AreClosures p rs) (long : length table ≡ length p.cells)
     (for_them : AreCellsFor p table (root_leaves p rs t) cells) (h : Grown cells None [] 0 0 guards leaves (root_occurrences p rs t) (root_leaves p rs t)) (top : strata ≡ strata_of table) where

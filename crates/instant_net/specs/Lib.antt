@@ -6,6 +6,7 @@ pub mod Programs
 pub mod Words
 pub mod Opened
 pub mod Outputs
+pub mod Locals
 pub mod Walks
 pub mod Collecting
 pub mod Laws

@@ -1,16 +1,19 @@
 -- Guards and leaves as a walk over the nodes of an instant lists them, and what they say by name. This project's own.
-use Rattle.std.specs.Prelude.{◌≡◌, ℕ, suc, ◌+◌, Bool, All, length, List, [], ◌∷◌, ◌++◌, map, set, slice_get, Option, Some}
+use Rattle.std.specs.Prelude.{◌≡◌, ℕ, suc, ◌+◌, ◌<◌, Bool, All, length, List, [], ◌∷◌, ◌++◌, map, set, slice_get, Option, Some}
 use Rattle.token_system.specs.declared.cell.Token.{Token}
 use Rattle.token_system.specs.declared.name.CellName.{CellName}
+use Rattle.token_system.specs.declared.name.CellName.TheVariants.{Declared}
 use Rattle.agent_core.specs.Agents.{Ask, agent_at}
 use Rattle.agent_core.specs.Programs.{CoreProgram}
 use Rattle.agent_core.specs.Leaves as core
 use Rattle.agent_core.specs.declared.node.CellDecl.{CellDecl}
 use Rattle.agent_core.specs.Names.{Names}
+use Rattle.instant_net.specs.declared.locals.Local.{Local}
 use Rattle.instant_net.specs.declared.parts.Atom.{Atom}
 use Rattle.instant_net.specs.declared.parts.NetCell.{NetCell}
 use Rattle.instant_net.specs.declared.parts.NetGuard.{NetGuard}
 use Rattle.instant_net.specs.declared.parts.NetLeaf.{NetLeaf}
+use Rattle.instant_net.specs.Locals.{AreLocalsOf}
 use Rattle.instant_net.specs.NamedLeaves.{Guard, Leaf}
 use Rattle.instant_net.specs.Occurrences.{Occurrence, occurrences_of}
 use Rattle.instant_net.specs.Nets.{AtomFits, named_at, named, named_guard, named_kind, atoms_of}
@@ -32,6 +35,12 @@ pub record IsPlaceOf (cells : List NetCell) (n : CellName) (place : ℕ) : Type 
   pub found : NetCell
   pub stands : slice_get cells place ≡ Some found
   pub named : found.name ≡ n
+
+-- the cells are those of their names, that of a declared one at its number, and these are the program's local cells
+pub record AreNamed (p : CoreProgram) (locals : List Local) (cells : List NetCell) : Type 0 where
+  pub each : All (IsNamed p) cells
+  pub declared : (k : ℕ) → k < p.declared → IsPlaceOf cells (Declared k) k
+  pub locals_are : AreLocalsOf p locals
 
 -- the atom is that of the token under the births
 pub record IsAtomOf (p : CoreProgram) (cells : List NetCell) (b : List ℕ) (x : ℕ × Token) (a : Atom) : Type 0 where

@@ -11,20 +11,23 @@ ghost use Rattle.agent_core.specs.Scope.{AskFits};
 ghost use Rattle.agent_laws.specs.Laws.{AreClosures};
 ghost use Rattle.agent_laws.specs.Ways.{cell_named};
 ghost use Rattle.instant_net.specs.Programs.{root_leaves};
+ghost use Rattle.instant_net.specs.Locals.{AreLocalsOf};
 ghost use Rattle.instant_net.specs.Collecting.{IsLocal, IsSpokenBy, AddsAsked, AddsSpoken, cell_names, declared_names, IsRow, AreCellsFor};
 
+use crate::locals::{Local, local_of};
 use crate::numbers::number_of;
 use crate::parts::NetCell;
-use agent_core::{Closure, Constraint, Levels, Node, Program, name_of};
+use agent_core::{Closure, Constraint, Levels, Node, Program};
 use std::alloc::{AllocError, Global};
 use std::collections::BTreeSet;
 use token_system::{CellName, Kind, Memory};
 
-/// What names are collected by: the program and the instant.
+/// What names are collected by: the program, its local cells, and the instant.
 #[derive(Clone, Copy)]
 struct Collector<'a> {
     alloc: Global,
     program: &'a Program,
+    locals: &'a [Local],
     t: u32,
 }
 
@@ -36,12 +39,14 @@ impl Collector<'_> {
         ask: &Constraint,
         names: &mut BTreeSet<CellName>,
     ) -> Result<(), Memory>
+        requires locals { AreLocalsOf self.now.program.now self.now.locals.now }
         requires fits { AskFits self.now.program.now births.now ask.now }
         ensures { IfOk result (λ _. AddsAsked self.now.program.now births.now ask.now names.old.keys names.new.keys) }
     {
         for (cell, _) in ask.list() {
             if *cell >= self.program.declared() {
-                names.insert(name_of(self.alloc, self.program, births, *cell)?)?;
+                let local = local_of(self.program, self.locals, *cell);
+                names.insert(local.name(self.alloc, births)?)?;
             }
         }
         Ok(())
@@ -54,6 +59,7 @@ impl Collector<'_> {
         births: &[u32],
         names: &mut BTreeSet<CellName>,
     ) -> Result<(), Memory>
+        requires locals { AreLocalsOf self.now.program.now self.now.locals.now }
         requires closure { IsClosure self.now.program.now node births.now }
         ensures { IfOk result (λ _. AddsSpoken self.now.program.now self.now.t node births.now names.old.keys names.new.keys) }
     {
@@ -81,13 +87,20 @@ impl Collector<'_> {
 fn local_names(
     alloc: Global,
     program: &Program,
+    locals: &[Local],
     roots: &[Closure],
     t: u32,
 ) -> Result<BTreeSet<CellName>, Memory>
-    requires { AreClosures program.now roots.now }
+    requires locals { AreLocalsOf program.now locals.now }
+    requires closures { AreClosures program.now roots.now }
     ensures { IfOk result (λ names. All (IsSpokenBy program.now (root_leaves program.now roots.now t)) names.keys) }
 {
-    let collector = Collector { alloc, program, t };
+    let collector = Collector {
+        alloc,
+        program,
+        locals,
+        t,
+    };
     let mut names = BTreeSet::new(alloc);
     for root in roots {
         collector.add_node(root.node, root.births.list(), &mut names)?;
@@ -195,19 +208,21 @@ impl Row {
     }
 }
 
-/// The cells of the net of these roots.
+/// The cells of the net of these roots, where these are the program's local cells.
 pub(crate) fn net_cells(
     alloc: Global,
     program: &Program,
+    locals: &[Local],
     levels: &Levels,
     roots: &[Closure],
     t: u32,
 ) -> Result<Vec<NetCell>, Memory>
+    requires locals { AreLocalsOf program.now locals.now }
     requires levels { length levels.now ≡ length program.now.cells }
     requires closures { AreClosures program.now roots.now }
     ensures { IfOk result (λ cells. AreCellsFor program.now levels.now (root_leaves program.now roots.now t) cells.items) }
 {
-    let names = local_names(alloc, program, roots, t)?;
+    let names = local_names(alloc, program, locals, roots, t)?;
     let mut row = Row {
         cells: Vec::new(alloc),
         words: 0,

@@ -5,6 +5,7 @@
 mod collecting;
 mod counting;
 mod laws;
+mod locals;
 mod net;
 mod numbers;
 mod opening;

@@ -10,6 +10,7 @@ ghost use Rattle.instant_net.specs.declared.opening.NetFault.TheVariants.{Memory
 
 use crate::collecting::net_cells;
 use crate::counting::count_leaves;
+use crate::locals::locals_of;
 use crate::net::Net;
 use crate::numbers::number_of;
 use crate::walking::net_parts;
@@ -58,8 +59,9 @@ fn net_of(
     requires few { length (root_leaves program.now roots.now t) ≤ 65536 }
     ensures { IfOk result (IsNetOf program.now levels.now roots.now t) }
 {
-    let cells = net_cells(alloc, program, levels, roots, t)?;
-    let parts = net_parts(alloc, program, roots, t, &cells)?;
+    let locals = locals_of(alloc, program)?;
+    let cells = net_cells(alloc, program, &locals, levels, roots, t)?;
+    let parts = net_parts(alloc, program, &locals, roots, t, &cells)?;
     number_of(parts.guards.len())?;
     Ok(Net::make(t, strata_of(levels), cells, parts.guards, parts.leaves))
 }

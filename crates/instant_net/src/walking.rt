@@ -1,16 +1,20 @@
 //! The guards and leaves of an instant, by a walk over the nodes of its roots.
-ghost use Rattle.std.specs.Prelude.{◌≡◌, ◌<◌, ◌++◌, ◌∷◌, [], All, IfOk, length, None};
+ghost use Rattle.std.specs.Prelude.{◌≡◌, ◌<◌, ◌++◌, ◌∷◌, [], IfOk, length, None};
+ghost use Rattle.token_system.specs.Names.{name_cmp};
+ghost use Rattle.token_system.specs.declared.name.CellName.TheVariants.{Local as LocalName};
 ghost use Rattle.agent_core.specs.Names.{IsClosure};
 ghost use Rattle.agent_core.specs.Scope.{TokenFits, AskFits};
 ghost use Rattle.agent_laws.specs.Laws.{AreClosures};
 ghost use Rattle.instant_net.specs.declared.parts.NetGuard.{NetGuard as GuardValue};
 ghost use Rattle.instant_net.specs.Programs.{root_leaves, root_occurrences};
-ghost use Rattle.instant_net.specs.Walks.{IsNamed, IsPlaceOf, IsAtomOf, AreAtomsOf, IsBegun, IsEnded, Grown, Adds};
+ghost use Rattle.instant_net.specs.Walks.{AreNamed, IsPlaceOf, IsAtomOf, AreAtomsOf, IsBegun, IsEnded, Grown, Adds};
 
+use crate::locals::{Local, local_of};
 use crate::numbers::number_of;
 use crate::parts::{Atom, Atoms, LeafKind, NetCell, NetGuard, NetLeaf};
-use agent_core::{Closure, Constraint, Node, Program, name_of};
+use agent_core::{Closure, Constraint, Node, Program};
 use std::alloc::{AllocError, Global};
+use std::cmp::Ordering;
 use token_system::{Births, CellName, Memory, Token};
 
 /// Guards and leaves, so far.
@@ -61,40 +65,58 @@ impl Parts {
     }
 }
 
-/// The place of the cell that has the name.
-fn place_of(cells: &[NetCell], name: &CellName) -> Result<u32, Memory>
-    ensures { IfOk result (λ place. IsPlaceOf cells.now name.now place) }
+/// How the name compares with that of the local cell of this node and these births.
+fn compared(name: &CellName, node: u32, births: &[u32]) -> Ordering
+    ensures { result ≡ name_cmp name.now (LocalName node births.now) }
 {
-    match cells.binary_search_by(|cell| cell.name.cmp(name)) {
+    match name {
+        CellName::Declared(_) => Ordering::Less,
+        CellName::Local {
+            node: own,
+            births: under,
+        } => own.cmp(&node).then(under.list().cmp(births)),
+    }
+}
+
+/// The place of the local cell of this node and these births.
+fn place_of(cells: &[NetCell], node: u32, births: &[u32]) -> Result<u32, Memory>
+    ensures { IfOk result (λ place. IsPlaceOf cells.now (LocalName node births.now) place) }
+{
+    match cells.binary_search_by(|cell| compared(&cell.name, node, births)) {
         Ok(place) => number_of(place),
         Err(_) => Err(AllocError),
     }
 }
 
-/// What a walk goes by: the program, the cells of the net, and the instant.
+/// What a walk goes by: the program and its local cells, the cells of the net, and the instant.
 #[derive(Clone, Copy)]
 struct Walk<'a> {
     alloc: Global,
     program: &'a Program,
+    locals: &'a [Local],
     cells: &'a [NetCell],
     t: u32,
 }
 
 impl Walk<'_> {
-    /// The token of a cell under the births, by the cell's place.
+    /// The token of a cell under the births, by the cell's place. That of a declared cell is its number.
     fn atom(&self, births: &[u32], cell: u32, token: Token) -> Result<Atom, Memory>
-        requires cells { All (IsNamed self.now.program.now) self.now.cells.now }
+        requires named { AreNamed self.now.program.now self.now.locals.now self.now.cells.now }
         requires fits { TokenFits self.now.program.now births.now (record { 0 = cell; 1 = token }) }
         ensures { IfOk result (IsAtomOf self.now.program.now self.now.cells.now births.now (record { 0 = cell; 1 = token })) }
     {
-        let name = name_of(self.alloc, self.program, births, cell)?;
-        let place = place_of(self.cells, &name)?;
+        if cell < self.program.declared() {
+            return Ok(Atom { cell, token });
+        }
+        let local = local_of(self.program, self.locals, cell);
+        let own = &births[..local.births as usize];
+        let place = place_of(self.cells, local.node, own)?;
         Ok(Atom { cell: place, token })
     }
 
     /// The tokens of the constraint under the births.
     fn atoms(&self, births: &[u32], ask: &Constraint) -> Result<Atoms, Memory>
-        requires cells { All (IsNamed self.now.program.now) self.now.cells.now }
+        requires named { AreNamed self.now.program.now self.now.locals.now self.now.cells.now }
         requires fits { AskFits self.now.program.now births.now ask.now }
         ensures { IfOk result (AreAtomsOf self.now.program.now self.now.cells.now births.now ask.now) }
     {
@@ -124,7 +146,7 @@ impl Walk<'_> {
         last: Option<u32>,
         parts: &mut Parts,
     ) -> Result<(), Memory>
-        requires cells { All (IsNamed self.now.program.now) self.now.cells.now }
+        requires named { AreNamed self.now.program.now self.now.locals.now self.now.cells.now }
         requires closure { IsClosure self.now.program.now node births.now }
         ensures { IfOk result (λ _. Adds self.now.program.now self.now.cells.now self.now.t node births.now last parts.old.guards.items parts.new.guards.items parts.old.leaves.items parts.new.leaves.items) }
     {
@@ -167,21 +189,23 @@ impl Walk<'_> {
     }
 }
 
-/// The guards and leaves of the roots, where these are the cells.
+/// The guards and leaves of the roots, where these are the program's local cells, and the cells of the net.
 pub(crate) fn net_parts(
     alloc: Global,
     program: &Program,
+    locals: &[Local],
     roots: &[Closure],
     t: u32,
     cells: &[NetCell],
 ) -> Result<Parts, Memory>
-    requires cells { All (IsNamed program.now) cells.now }
+    requires named { AreNamed program.now locals.now cells.now }
     requires closures { AreClosures program.now roots.now }
     ensures { IfOk result (λ parts. Grown cells.now None [] 0 0 parts.guards.items parts.leaves.items (root_occurrences program.now roots.now t) (root_leaves program.now roots.now t)) }
 {
     let walk = Walk {
         alloc,
         program,
+        locals,
         cells,
         t,
     };

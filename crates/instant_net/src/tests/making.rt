@@ -4,6 +4,7 @@ ghost use Rattle.agent_core.specs.Facts.{IsProgram};
 
 use super::{SIGNAL, first_roots, on, over_cells, rising_levels};
 use crate::collecting::net_cells;
+use crate::locals::{Local, locals_of};
 use crate::parts::{Atom, Atoms, LeafKind, NetGuard, NetLeaf};
 use crate::walking::net_parts;
 use crate::{NetFault, open_net};
@@ -45,6 +46,19 @@ pub(super) fn nested(alloc: Global) -> Result<Program, Fail>
     })?;
     nodes.push(Node::Tell(on(alloc, 1)?))?;
     over_cells(alloc, &[SIGNAL, SIGNAL, SIGNAL], 2, nodes)
+}
+
+/// `new signal r in {new signal s in s || r}`.
+fn new_in_new(alloc: Global) -> Result<Program, Fail>
+    ensures { IfOk result IsProgram }
+{
+    let mut nodes = Vec::new(alloc);
+    nodes.push(Node::New { cell: 0, body: 1 })?;
+    nodes.push(Node::Par { left: 2, right: 4 })?;
+    nodes.push(Node::New { cell: 1, body: 3 })?;
+    nodes.push(Node::Tell(on(alloc, 1)?))?;
+    nodes.push(Node::Tell(on(alloc, 0)?))?;
+    over_cells(alloc, &[SIGNAL, SIGNAL], 0, nodes)
 }
 
 /// Whether these atoms are that the one cell is on.
@@ -102,7 +116,8 @@ fn cells_are_the_declared_ones_and_then_the_local_one(rt: HostRuntime) -> Result
     let program = nested(rt.alloc())?;
     let levels = rising_levels(rt.alloc(), &program)?;
     let roots = first_roots(rt.alloc(), &program)?;
-    let cells = net_cells(rt.alloc(), &program, &levels, &roots, 7)?;
+    let locals = locals_of(rt.alloc(), &program)?;
+    let cells = net_cells(rt.alloc(), &program, &locals, &levels, &roots, 7)?;
     let mut births = Vec::new(rt.alloc());
     births.push(7)?;
     let local = CellName::Local {
@@ -121,12 +136,32 @@ fn cells_are_the_declared_ones_and_then_the_local_one(rt: HostRuntime) -> Result
 }
 
 #[test]
+fn a_local_cell_has_the_births_of_all_new_nodes_around_it(rt: HostRuntime) -> Result<(), Fail> {
+    let program = new_in_new(rt.alloc())?;
+    let locals = locals_of(rt.alloc(), &program)?;
+    let outer = Local {
+        cell: 0,
+        node: 0,
+        births: 1,
+    };
+    let inner = Local {
+        cell: 1,
+        node: 2,
+        births: 2,
+    };
+    assert_eq!(rt; locals.len(), 2);
+    assert!(rt; locals[0] == outer && locals[1] == inner);
+    Ok(())
+}
+
+#[test]
 fn guards_name_the_one_above_and_leaves_the_last_one(rt: HostRuntime) -> Result<(), Fail> {
     let program = nested(rt.alloc())?;
     let levels = rising_levels(rt.alloc(), &program)?;
     let roots = first_roots(rt.alloc(), &program)?;
-    let cells = net_cells(rt.alloc(), &program, &levels, &roots, 7)?;
-    let parts = net_parts(rt.alloc(), &program, &roots, 7, &cells)?;
+    let locals = locals_of(rt.alloc(), &program)?;
+    let cells = net_cells(rt.alloc(), &program, &locals, &levels, &roots, 7)?;
+    let parts = net_parts(rt.alloc(), &program, &locals, &roots, 7, &cells)?;
     assert_eq!(rt; parts.guards.len(), 3);
     assert_eq!(rt; parts.leaves.len(), 2);
     assert!(rt; is_guard(&parts.guards[0], false, 0, None, 0, 2));

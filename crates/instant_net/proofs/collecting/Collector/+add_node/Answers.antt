@@ -9,24 +9,24 @@ use Rattle.instant_net.proofs.NodeParts.{body_of, body-asked}
 use Rattle.instant_net.proofs.collecting.Collector.+add_node.Goals as goal
 
 pub add_ask-requires : goal.add_ask-requires
-add_ask-requires t c = record { fits = own_ask_fits c.args.self.now.program.now c.nodes.ensures.program c.args.node c.args.births.now c.requires.closure (nodes.Tell c.in-Tell.told) (node_found c.args.self.now.program.now c.nodes.result.now c.args.node c.index-nodes-node.result c.nodes.ensures.all c.requires.closure.node c.index-nodes-node.is ∙ ap Some c.in-Tell.is) }
+add_ask-requires t c = record { locals = c.requires.locals; fits = own_ask_fits c.args.self.now.program.now c.nodes.ensures.program c.args.node c.args.births.now c.requires.closure (nodes.Tell c.in-Tell.told) (node_found c.args.self.now.program.now c.nodes.result.now c.args.node c.index-nodes-node.result c.nodes.ensures.all c.requires.closure.node c.index-nodes-node.is ∙ ap Some c.in-Tell.is) }
 
 pub add_ask-requires-in-Then : goal.add_ask-requires-in-Then
-add_ask-requires-in-Then t c = record { fits = body-asked c.args.self.now.program.now c.nodes.ensures.program c.args.node c.args.births.now c.requires.closure c.index-nodes-node.result c.in-Then.ask c.in-Then.body c.in-Then.is (node_found c.args.self.now.program.now c.nodes.result.now c.args.node c.index-nodes-node.result c.nodes.ensures.all c.requires.closure.node c.index-nodes-node.is) }
+add_ask-requires-in-Then t c = record { locals = c.requires.locals; fits = body-asked c.args.self.now.program.now c.nodes.ensures.program c.args.node c.args.births.now c.requires.closure c.index-nodes-node.result c.in-Then.ask c.in-Then.body c.in-Then.is (node_found c.args.self.now.program.now c.nodes.result.now c.args.node c.index-nodes-node.result c.nodes.ensures.all c.requires.closure.node c.index-nodes-node.is) }
 
 pub add_node-requires : goal.add_node-requires
 add_node-requires t c =
     let part = left_of c.args.self.now.program.now c.nodes.ensures.program c.args.node c.args.births.now c.requires.closure c.in-Par.left c.in-Par.right (node_found c.args.self.now.program.now c.nodes.result.now c.args.node c.index-nodes-node.result c.nodes.ensures.all c.requires.closure.node c.index-nodes-node.is ∙ ap Some c.in-Par.is) in
     let above = part.above in
     let inside = part.inside in
-    (omega arith, part.is_closure)
+    (omega arith, (c.requires.locals, part.is_closure))
 
 pub add_node-requires-in-Par : goal.add_node-requires-in-Par
 add_node-requires-in-Par t c =
     let part = right_of c.args.self.now.program.now c.nodes.ensures.program c.args.node c.args.births.now c.requires.closure c.in-Par.left c.in-Par.right (node_found c.args.self.now.program.now c.nodes.result.now c.args.node c.index-nodes-node.result c.nodes.ensures.all c.requires.closure.node c.index-nodes-node.is ∙ ap Some c.in-Par.is) in
     let above = part.above in
     let inside = part.inside in
-    (omega arith, part.is_closure)
+    (omega arith, (c.requires.locals, part.is_closure))
 
 pub add_node-requires-in-New : goal.add_node-requires-in-New
 add_node-requires-in-New t c =
@@ -34,14 +34,14 @@ add_node-requires-in-New t c =
     let part = new_body c.args.self.now.program.now c.nodes.ensures.program c.args.node c.args.births.now c.requires.closure c.in-New.cell c.in-New.body c.args.self.now.t (node_found c.args.self.now.program.now c.nodes.result.now c.args.node c.index-nodes-node.result c.nodes.ensures.all c.requires.closure.node c.index-nodes-node.is ∙ ap Some c.in-New.is) in
     let above = part.above in
     let inside = part.inside in
-    (omega arith, subst (IsClosure c.args.self.now.program.now c.in-New.body) (sym grown) part.is_closure)
+    (omega arith, (c.requires.locals, subst (IsClosure c.args.self.now.program.now c.in-New.body) (sym grown) part.is_closure))
 
 pub add_node-requires-in-Then : goal.add_node-requires-in-Then
 add_node-requires-in-Then t c =
     let part = body_of c.args.self.now.program.now c.nodes.ensures.program c.args.node c.args.births.now c.requires.closure c.index-nodes-node.result c.in-Then.ask c.in-Then.body c.in-Then.is (node_found c.args.self.now.program.now c.nodes.result.now c.args.node c.index-nodes-node.result c.nodes.ensures.all c.requires.closure.node c.index-nodes-node.is) in
     let above = part.above in
     let inside = part.inside in
-    (omega arith, part.is_closure)
+    (omega arith, (c.requires.locals, part.is_closure))
 
 pub returns-in-Tell : goal.returns-in-Tell
 returns-in-Tell t c =

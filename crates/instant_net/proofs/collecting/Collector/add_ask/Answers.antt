@@ -5,9 +5,10 @@ use Rattle.token_system.specs.declared.cell.Token.TheVariants.{On}
 use Rattle.agent_core.specs.Scope.{AskFits}
 use Rattle.instant_net.specs.Collecting.{AddsAsked}
 use Rattle.instant_net.proofs.Atoms.{next-fits}
+use Rattle.instant_net.proofs.LocalCells.{fitting_cell, its_name}
 use Rattle.instant_net.proofs.SpokenNames.{asked-none, asked-next}
 use Rattle.instant_net.proofs.collecting.Collector.add_ask.Goals as goal
-use Rattle.instant_net.proofs.collecting.Collector.add_ask.Goals.{then-cell-declared+in_ok-name_of+in_ok-insert, else-cell-declared}
+use Rattle.instant_net.proofs.collecting.Collector.add_ask.Goals.{then-cell-declared+in_ok-name+in_ok-insert, else-cell-declared}
 
 pub loop-cell-init : goal.loop-cell-init
 loop-cell-init c = record {
@@ -15,10 +16,16 @@ loop-cell-init c = record {
   fits = subst (AskFits c.args.self.now.program.now c.args.births.now) (sym c.list-cell-items.ensures.all) c.requires.fits;
 }
 
-pub name_of-requires : goal.name_of-requires
-name_of-requires c =
+pub local_of-local-requires-clause-cell : goal.local_of-local-requires-clause-cell
+local_of-local-requires-clause-cell c =
     let f = (next-fits c.args.self.now.program.now c.args.births.now c.list-cell-items.result.now c.loop-cell.cell-index (0, On) c.loop-cell-test.true c.loop-cell.invariant.fits).0 in
-    (f.decl, f.named)
+    fitting_cell c.args.self.now.program.now c.args.births.now (get_or c.list-cell-items.result.now c.loop-cell.cell-index (0, On)) f
+
+pub name-requires : goal.name-requires
+name-requires c =
+    let f = (next-fits c.args.self.now.program.now c.args.births.now c.list-cell-items.result.now c.loop-cell.cell-index (0, On) c.loop-cell-test.true c.loop-cell.invariant.fits).0 in
+    let most : c.args.self.now.program.now.declared ≤ (get_or c.list-cell-items.result.now c.loop-cell.cell-index (0, On)).0 = let n = c.declared.ensures.number in let le = c.if-cell-declared.true in omega arith in
+    (its_name c.args.self.now.program.now c.args.births.now (get_or c.list-cell-items.result.now c.loop-cell.cell-index (0, On)) f most c.local_of-local.result c.local_of-local.ensures).long
 
 pub loop-cell-preserved : goal.loop-cell-preserved
 loop-cell-preserved c =
@@ -26,10 +33,10 @@ loop-cell-preserved c =
     let p = c.args.self.now.program.now in
     record {
       added = elim c.if-cell-declared.branch [
-        | then-cell-declared+in_ok-name_of+in_ok-insert w ↦
+        | then-cell-declared+in_ok-name+in_ok-insert w ↦
             let most : p.declared ≤ (get_or c.list-cell-items.result.now c.loop-cell.cell-index (0, On)).0 = let n = c.declared.ensures.number in let le = w.if-cell-declared.true in omega arith in
-            asked-next p c.args.births.now c.args.ask.now c.list-cell-items.result.now c.loop-cell.cell-index (0, On) c.args.names.now.keys c.loop-cell.names.keys c.if-cell-declared.names.keys w.in_ok-name_of.field-0
-            c.list-cell-items.ensures.all c.loop-cell-test.true f.0 most w.in_ok-name_of.ensures c.loop-cell.invariant.added (ap (λ (x : BTreeSet CellName). x.keys) w.names-is ∙ w.in_ok-insert.ensures.keys)
+            asked-next p c.args.births.now c.args.ask.now c.list-cell-items.result.now c.loop-cell.cell-index (0, On) c.args.names.now.keys c.loop-cell.names.keys c.if-cell-declared.names.keys w.in_ok-name.field-0
+            c.list-cell-items.ensures.all c.loop-cell-test.true f.0 most (w.in_ok-name.ensures ∙ (its_name p c.args.births.now (get_or c.list-cell-items.result.now c.loop-cell.cell-index (0, On)) f.0 most w.local_of-local.result w.local_of-local.ensures).name) c.loop-cell.invariant.added (ap (λ (x : BTreeSet CellName). x.keys) w.names-is ∙ w.in_ok-insert.ensures.keys)
         | else-cell-declared w ↦
             subst (AddsAsked p c.args.births.now c.args.ask.now c.args.names.now.keys) (sym (ap (λ (x : BTreeSet CellName). x.keys) w.names-is)) c.loop-cell.invariant.added
       ];

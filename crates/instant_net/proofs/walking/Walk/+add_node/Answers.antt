@@ -22,28 +22,28 @@ add_node-requires t c =
     let part = then_body c.args.self.now.program.now c.nodes.ensures.program c.args.node c.args.births.now c.requires.closure c.in-Then.ask c.in-Then.body (node_found c.args.self.now.program.now c.nodes.result.now c.args.node c.index-nodes-node.result c.nodes.ensures.all c.requires.closure.node c.index-nodes-node.is ∙ ap Some c.in-Then.is) in
     let above = part.above in
     let inside = part.inside in
-    (omega arith, (c.requires.cells, part.is_closure))
+    (omega arith, (c.requires.named, part.is_closure))
 
 pub add_node-requires-in-Else : goal.add_node-requires-in-Else
 add_node-requires-in-Else t c =
     let part = else_body c.args.self.now.program.now c.nodes.ensures.program c.args.node c.args.births.now c.requires.closure c.in-Else.ask c.in-Else.body (node_found c.args.self.now.program.now c.nodes.result.now c.args.node c.index-nodes-node.result c.nodes.ensures.all c.requires.closure.node c.index-nodes-node.is ∙ ap Some c.in-Else.is) in
     let above = part.above in
     let inside = part.inside in
-    (omega arith, (c.requires.cells, part.is_closure))
+    (omega arith, (c.requires.named, part.is_closure))
 
 pub add_node-requires-in-Par : goal.add_node-requires-in-Par
 add_node-requires-in-Par t c =
     let part = left_of c.args.self.now.program.now c.nodes.ensures.program c.args.node c.args.births.now c.requires.closure c.in-Par.left c.in-Par.right (node_found c.args.self.now.program.now c.nodes.result.now c.args.node c.index-nodes-node.result c.nodes.ensures.all c.requires.closure.node c.index-nodes-node.is ∙ ap Some c.in-Par.is) in
     let above = part.above in
     let inside = part.inside in
-    (omega arith, (c.requires.cells, part.is_closure))
+    (omega arith, (c.requires.named, part.is_closure))
 
 pub add_node-requires-in-Par-2 : goal.add_node-requires-in-Par-2
 add_node-requires-in-Par-2 t c =
     let part = right_of c.args.self.now.program.now c.nodes.ensures.program c.args.node c.args.births.now c.requires.closure c.in-Par.left c.in-Par.right (node_found c.args.self.now.program.now c.nodes.result.now c.args.node c.index-nodes-node.result c.nodes.ensures.all c.requires.closure.node c.index-nodes-node.is ∙ ap Some c.in-Par.is) in
     let above = part.above in
     let inside = part.inside in
-    (omega arith, (c.requires.cells, part.is_closure))
+    (omega arith, (c.requires.named, part.is_closure))
 
 pub add_node-requires-in-New : goal.add_node-requires-in-New
 add_node-requires-in-New t c =
@@ -51,7 +51,7 @@ add_node-requires-in-New t c =
     let part = new_body c.args.self.now.program.now c.nodes.ensures.program c.args.node c.args.births.now c.requires.closure c.in-New.cell c.in-New.body c.args.self.now.t (node_found c.args.self.now.program.now c.nodes.result.now c.args.node c.index-nodes-node.result c.nodes.ensures.all c.requires.closure.node c.index-nodes-node.is ∙ ap Some c.in-New.is) in
     let above = part.above in
     let inside = part.inside in
-    (omega arith, (c.requires.cells, subst (IsClosure c.args.self.now.program.now c.in-New.body) (sym grown) part.is_closure))
+    (omega arith, (c.requires.named, subst (IsClosure c.args.self.now.program.now c.in-New.body) (sym grown) part.is_closure))
 
 pub returns-in-Skip : goal.returns-in-Skip
 returns-in-Skip t c =
