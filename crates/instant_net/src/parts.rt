@@ -2,6 +2,7 @@
 ghost use Rattle.std.specs.Prelude.{◌≡◌};
 
 use agent_core::Closure;
+use smallvec::SmallVec;
 use std::marker::Model;
 use token_system::{Cell, CellName, Token};
 
@@ -12,10 +13,20 @@ pub struct Atom {
     pub token: Token,
 }
 
-/// Atoms, in order.
+impl Default for Atom {
+    /// What stands at the places of a list that it does not use.
+    fn default() -> Atom {
+        Atom {
+            cell: 0,
+            token: Token::Clash,
+        }
+    }
+}
+
+/// Atoms, in order. Most constraints have one token, and take no memory of their own.
 #[derive(Debug, Drop)]
 pub(crate) struct Atoms {
-    list: Vec<Atom>,
+    list: SmallVec<Atom, 1>,
 }
 
 impl Model for Atoms {
@@ -28,7 +39,7 @@ impl Model for Atoms {
 }
 
 impl Atoms {
-    pub(crate) fn make(list: Vec<Atom>) -> Atoms
+    pub(crate) fn make(list: SmallVec<Atom, 1>) -> Atoms
         ensures { result ≡ list.items }
     {
         Atoms { list }

@@ -13,6 +13,7 @@ use crate::locals::{Local, local_of};
 use crate::numbers::number_of;
 use crate::parts::{Atom, Atoms, LeafKind, NetCell, NetGuard, NetLeaf};
 use agent_core::{Closure, Constraint, Node, Program};
+use smallvec::SmallVec;
 use std::alloc::{AllocError, Global};
 use std::cmp::Ordering;
 use token_system::{Births, CellName, Memory, Token};
@@ -120,7 +121,7 @@ impl Walk<'_> {
         requires fits { AskFits self.now.program.now births.now ask.now }
         ensures { IfOk result (AreAtomsOf self.now.program.now self.now.cells.now births.now ask.now) }
     {
-        let mut list = Vec::new(self.alloc);
+        let mut list = SmallVec::new(self.alloc);
         for (cell, token) in ask.list() {
             let atom = self.atom(births, *cell, *token)?;
             list.push(atom)?;

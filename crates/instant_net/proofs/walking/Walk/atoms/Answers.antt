@@ -9,6 +9,6 @@ pub loop-cell-preserved : goal.loop-cell-preserved
 loop-cell-preserved c = record {
   so_far =
       atoms-next c.args.self.now.program.now c.args.self.now.cells.now c.args.births.now c.list-cell-items.result.now c.loop-cell.cell-index (0, On) c.loop-cell.list.items c.push.new.self.items c.in_ok-atom.atom
-      c.loop-cell-test.true c.loop-cell.invariant.so_far c.in_ok-atom.ensures c.in_ok-push.ensures.items;
+      c.loop-cell-test.true c.loop-cell.invariant.so_far c.in_ok-atom.ensures c.in_ok-push.ensures.ok;
   fits = (next-fits c.args.self.now.program.now c.args.births.now c.list-cell-items.result.now c.loop-cell.cell-index (0, On) c.loop-cell-test.true c.loop-cell.invariant.fits).1;
 }
