@@ -102,6 +102,9 @@ fn local_names(
         t,
     };
     let mut names = BTreeSet::new(alloc);
+    if locals.is_empty() {
+        return Ok(names);
+    }
     for root in roots {
         collector.add_node(root.node, root.births.list(), &mut names)?;
     }
@@ -224,7 +227,7 @@ pub(crate) fn net_cells(
 {
     let names = local_names(alloc, program, locals, roots, t)?;
     let mut row = Row {
-        cells: Vec::new(alloc),
+        cells: Vec::with_capacity(alloc, program.declared() as usize + names.len())?,
         words: 0,
     };
     row.add_declared(program, levels)?;

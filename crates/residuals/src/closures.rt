@@ -29,6 +29,7 @@ pub(crate) fn copy(closure: &Closure) -> Result<Closure, Memory>
 pub(crate) fn add_copies(list: &mut Vec<Closure>, closures: &[Closure]) -> Result<(), Memory>
     ensures { OnOk result (list.new.items ≡ list.old.items ++ closures.now) }
 {
+    list.reserve(closures.len())?;
     for closure in closures {
         list.push(copy(closure)?)?;
     }

@@ -21,7 +21,7 @@ pub fn open_words(alloc: Global, net: &Net, input: &Store) -> Result<Words, Memo
     ensures words { IfOk result (AreWords net.now.cells) }
     ensures store { IfOk result (λ words. store_in net.now.cells words ≡ input.now) }
 {
-    let mut list = Vec::new(alloc);
+    let mut list = Vec::with_capacity(alloc, net.words() as usize)?;
     for place in 0..net.cells() {
         let cell = net.cell(place);
         let value = value_of(input, net.cell_name(place), cell);
@@ -89,6 +89,9 @@ fn keep(store: &mut Store, name: CellName, cell: Cell, value: Value) -> Result<(
     requires value { IsValueOf cell value }
     ensures { OnOk result (store.new ≡ stored store.old name cell value) }
 {
+    if value == bottom(cell) {
+        return Ok(());
+    }
     match value {
         Value::Signal { on: true, .. } => store.tell(name, cell, Token::On),
         Value::Signal { off: true, .. } => store.tell(name, cell, Token::Off),
