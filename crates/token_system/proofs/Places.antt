@@ -1,7 +1,7 @@
 -- Where a key stands among sorted entries, and what an edit at that place does to the map that they make.
-use Rattle.std.proofs.Common.{◌≡◌, ℕ, zero, suc, ◌<◌, ◌≤◌, Bool, true, false, ◌&&◌, List, [], ◌∷◌, length, get_or, set, Some, None, Result, Ok, Err, IfOk, IfErr, refl, sym, ap, ◌∙◌, subst, arith}
-use Rattle.std.specs.Prelude.{T, slice_get, option_map, map as list_map}
-use Rattle.std.proofs.lemmas.Option.{slice_get-get_or, slice_get-map}
+use Rattle.std.proofs.Common.{◌≡◌, ℕ, zero, suc, ◌-◌, ◌<◌, ◌≤◌, Bool, true, false, ◌&&◌, List, [], ◌∷◌, length, get_or, set, Some, None, Result, Ok, Err, IfOk, refl, sym, ap, ◌∙◌, subst, arith}
+use Rattle.std.specs.Prelude.{T, slice_get, option_map, unwrap_or, map as list_map}
+use Rattle.std.proofs.lemmas.Option.{slice_get-get_or, slice_get-map, unwrap_or-slice_get}
 use Rattle.std.specs.List.{insert}
 use Rattle.std.specs.List.Sorted.{IsSearchInRange, IsBinarySearchResult, IsNonDecreasingBy}
 use Rattle.std.specs.Ordering.{ordering_index, ordering_reverse, is_lt}
@@ -11,7 +11,7 @@ use Rattle.std.specs.Cmp.{IsTotalOrder}
 use Rattle.std.specs.FinMap as map
 use Rattle.std.specs.FinMap.{find, put, is_sorted}
 use Rattle.std.specs.FinMap.Entries.{below_all, by_order}
-use Rattle.token_system.specs.Places.{IsAt, IsGapFor}
+use Rattle.token_system.specs.Places.{IsAt, IsGapFor, IsPlaceOf}
 
 pub first_of_both : (a b : Bool) → T (a && b) → T a
 first_of_both true b h = tt
@@ -47,6 +47,14 @@ module _ {K : Type 0} {R : K → K → Ordering} (o : IsTotalOrder R) where
   same_key x k e = subst (λ (y : K). R k y ≡ Equal) (sym e) (own k)
 
 -- ENTRIES
+
+module _ {A : Type 0} where
+  last_read : (xs : List A) (last d : A) → slice_get xs (length xs - 1) ≡ Some last → get_or xs (length xs - 1) d ≡ last
+  last_read xs last d is = sym (unwrap_or-slice_get xs (length xs - 1) d) ∙ ap (λ o. unwrap_or o d) is
+
+  not_empty : (xs : List A) (last : A) → slice_get xs (length xs - 1) ≡ Some last → 0 < length xs
+  not_empty [] last is = absurd (cc)
+  not_empty (x ∷ xs) last is = omega arith
 
 module _ {K X : Type 0} (R : K → K → Ordering) where
   -- the first key of sorted entries is less than each later one
@@ -123,16 +131,42 @@ module _ {K X : Type 0} (R : K → K → Ordering) where
 
     -- a binary search by key among sorted entries ends at the key, or at the gap for it
     pub searched : map.IsAntisymmetric R → (k : K) (es : List (K × X)) → T (is_sorted R es) → (r : Result ℕ ℕ) → IsSearchInRange r (length es)
-        → IsBinarySearchResult (λ e. R e.0 k) es r → IfOk r (IsAt es k) × IfErr r (IsGapFor R es k)
-    searched anti k es s (Ok i) within equal = (record { in_range = within; has_key = λ d. anti _ k (equal d) }, tt)
-    searched anti k es s (Err i) within parted = (
-      tt,
-      record {
+        → IsBinarySearchResult (λ e. R e.0 k) es r → IsPlaceOf R es k r
+    searched anti k es s (Ok i) within equal = record { found = record { in_range = within; has_key = λ d. anti _ k (equal d) }; absent = tt }
+    searched anti k es s (Err i) within parted = record {
+      found = tt;
+      absent = record {
         in_range = within;
         smaller_before = λ j d lt. (parted (comparisons_rise k es s)).0 j d (omega arith) lt;
         greater_after = λ j d le lt. (parted (comparisons_rise k es s)).1 j d le lt;
-      },
-    )
+      };
+    }
+
+    -- a greater key than the last one goes to the end
+    pub at_end : (k : K) (es : List (K × X)) (last : K × X) → T (is_sorted R es) → slice_get es (length es - 1) ≡ Some last → R last.0 k ≡ Less → IsPlaceOf R es k (Err (length es))
+    at_end k es last s is less = record {
+      found = tt;
+      absent = record {
+        in_range = omega arith;
+        smaller_before = λ j d lt. least _ (omega (arith, comparisons_rise k es s j (length es - 1) d (omega arith) (omega arith), ap (λ (x : K × X). ordering_index (R x.0 k)) (last_read es last d is), ap ordering_index less));
+        greater_after = λ j d le lt. absurd (omega arith);
+      };
+    }
+      where
+        least : (r : Ordering) → ordering_index r ≤ 0 → r ≡ Less
+        least Less h = refl
+        least Equal h = absurd (omega arith)
+        least Greater h = absurd (omega arith)
+
+    -- the last key is at the last place
+    pub at_last : map.IsAntisymmetric R → (k : K) (es : List (K × X)) (last : K × X) → slice_get es (length es - 1) ≡ Some last → R last.0 k ≡ Equal → IsPlaceOf R es k (Ok (length es - 1))
+    at_last anti k es last is same = record {
+      found = record {
+        in_range = let some = not_empty es last is in omega arith;
+        has_key = λ d. ap (λ (x : K × X). x.0) (last_read es last d is) ∙ anti last.0 k same;
+      };
+      absent = tt;
+    }
 
     -- entries with one put in its place are sorted, and make the map with that one inserted
     pub put_sorted : (es : List (K × X)) (k : K) (v : X) → T (is_sorted R es) → T (is_sorted R (put R k v es))
@@ -140,6 +174,11 @@ module _ {K X : Type 0} (R : K → K → Ordering) where
 
     pub put_inserts : (es : List (K × X)) (k : K) (v : X) → T (is_sorted R es) → map.from_sorted {R = R} (put R k v es) ≡ map.insert (map.from_sorted es) k v
     put_inserts es k v s = map.same_entries_map _ _ (map.entries-from_sorted R (put R k v es) (put_sorted es k v s) ∙ sym (map.entries-insert o (map.from_sorted es) k v ∙ ap (put R k v) (map.entries-from_sorted R es s)))
+
+-- a search in a map finds a place within it
+pub place_within : {K X : Type 0} (R : K → K → Ordering) (m : map.FinMap R X) (k : K) (r : Result ℕ ℕ) → IsPlaceOf R (map.entries m) k r → IfOk r (λ i. i < map.len m)
+place_within R m k (Ok i) h = rw (map.len-entries m) h.found.in_range
+place_within R m k (Err i) h = tt
 
 -- THE MAP OF SORTED ENTRIES
 
@@ -159,6 +198,20 @@ module _ {K X : Type 0} (R : K → K → Ordering) (es : List (K × X)) (s : T (
 
   pub empty-has_none : map.from_sorted {R = R} es ≡ map.empty → length es ≡ 0
   empty-has_none e = sym len-from_sorted ∙ ap map.len e ∙ map.len-empty R X
+
+  -- what a search in the map found, as a place among its entries
+  module _ (m : map.FinMap R X) (made : map.from_sorted es ≡ m) (k : K) (r : Result ℕ ℕ) where
+    entries_made : map.entries m ≡ es
+    entries_made = ap map.entries (sym made) ∙ map.entries-from_sorted R es s
+
+    pub place_made : IsPlaceOf R es k r → IsPlaceOf R (map.entries m) k r
+    place_made h = rw entries_made h
+
+    pub place_found : (i : ℕ) → r ≡ Ok i → IsPlaceOf R (map.entries m) k r → IsAt es k i
+    place_found i e h = (subst (λ (r : Result ℕ ℕ). IsPlaceOf R es k r) e (rw entries_made at h)).found
+
+    pub gap_found : (i : ℕ) → r ≡ Err i → IsPlaceOf R (map.entries m) k r → IsGapFor R es k i
+    gap_found i e h = (subst (λ (r : Result ℕ ℕ). IsPlaceOf R es k r) e (rw entries_made at h)).absent
 
   module _ (o : IsTotalOrder R) where
     pub get-at_place : (k : K) (i : ℕ) (d : K × X) → IsAt es k i → map.get (map.from_sorted {R = R} es) k ≡ Some (get_or es i d).1
