@@ -280,6 +280,24 @@ fn a_store_keeps_names_in_order_and_no_bottom(rt: HostRuntime) -> Result<(), Fai
 }
 
 #[test]
+fn the_value_at_a_place_is_that_of_the_name_there(rt: HostRuntime) -> Result<(), Fail> {
+    let mut store = Store::new(rt.alloc());
+    for (number, cell, token) in [
+        (5, SIGNAL, Token::Clash),
+        (2, ZERO_TO_TEN, Token::AtLeast(3)),
+        (2, ZERO_TO_TEN, Token::AtMost(4)),
+    ] {
+        let name = CellName::Declared(number);
+        told(&rt, &mut store, name, cell, [token].as_slice())?;
+    }
+    for (place, value) in [(0, Value::Number { lo: 3, hi: 4 }), (1, Value::Clash)] {
+        assert!(rt; place < store.len());
+        assert_eq!(rt; store.kept_at(place), value, "at {place}");
+    }
+    Ok(())
+}
+
+#[test]
 fn values_join_to_what_either_says(rt: HostRuntime) {
     for (a, b, joined, below) in [
         (

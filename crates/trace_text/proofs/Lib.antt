@@ -3,6 +3,7 @@ pub mod Sayings
 pub mod Refused
 pub mod GivenInputs
 pub mod LineWalks
+pub mod StoreWalks
 pub mod Written
 pub mod CellWidths
 pub mod TokenTexts

@@ -1,20 +1,22 @@
 -- Texts that are written one after the other, each with a space behind it, are a line and one space.
-use Rattle.std.proofs.Common.{◌≡◌, ℕ, suc, ◌+◌, ◌-◌, ◌<◌, ◌≤◌, Bool, true, false, cond, ℤ, List, [], ◌∷◌, ◌++◌, length, take, drop, get_or, refl, sym, ap, ◌∙◌, subst, append_assoc, add-one, drop-cons, arith}
+use Rattle.std.proofs.Common.{◌≡◌, ℕ, Option, Some, None, ◌+◌, ◌-◌, ◌<◌, ◌≤◌, Bool, true, false, cond, ℤ, List, [], ◌∷◌, ◌++◌, length, take, drop, refl, sym, ap, ◌∙◌, subst, append_assoc, add-one, arith}
 use Rattle.std.specs.Ordering.{int_eq}
 use Rattle.std.specs.List.{join_with_byte}
-use Rattle.std.specs.Prelude.{int_lt}
+use Rattle.std.specs.FinMap as map
+use Rattle.std.specs.Prelude.{int_lt, slice_get}
 use Rattle.std.proofs.lemmas.List.{append-nil, drop_all, length_push, length-append}
 use Rattle.std.proofs.lemmas.Bool.Decides.{Decides-int_eq}
 use Rattle.std.proofs.lemmas.Grind.{flat_map-append}
 use Rattle.std.proofs.Math.Seq.{take-append_seam}
 use Rattle.token_system.specs.declared.cell.Value.{Value}
 use Rattle.token_system.specs.declared.cell.Token.TheVariants.{AtLeast, AtMost}
-use Rattle.token_system.specs.declared.name.CellName.TheVariants.{Declared}
-use Rattle.token_system.specs.Stores.{Valuation, value_at}
+use Rattle.token_system.specs.Stores.{Valuation}
 use Rattle.token_system.specs.Texts.{text_of}
+use Rattle.token_system.specs.declared.name.CellName.{CellName}
 use Rattle.agent_core.specs.declared.node.CellDecl.{CellDecl}
-use Rattle.trace_text.specs.StoreLines.{bound_texts, cell_texts, exact_text, text_if, value_texts}
+use Rattle.trace_text.specs.StoreLines.{bound_texts, cell_named, cell_texts, exact_text, text_if, value_texts}
 use Rattle.trace_text.specs.Writing.{spaced, Grows}
+use Rattle.trace_text.proofs.StoreWalks.{cells-entries, entries-from, entry_texts, texts_of, texts-after}
 
 pub Grows-refl : (xs : List ℕ) → Grows xs xs
 Grows-refl xs = ([], sym (append-nil xs))
@@ -78,33 +80,38 @@ two_bounds name least most lo hi old middle now differ a b =
     ∙ append_assoc old (spaced (text_if (int_lt least lo) (text_of name (AtLeast lo)))) (spaced (text_if (int_lt hi most) (text_of name (AtMost hi))))
     ∙ ap (λ (z : List ℕ). old ++ z) (sym (spaced-append (text_if (int_lt least lo) (text_of name (AtLeast lo))) (text_if (int_lt hi most) (text_of name (AtMost hi)))) ∙ ap spaced (sym (other_bounds name least most lo hi differ)))
 
--- the texts of the first n cells were written, and those of the others are left
-pub record CellsWritten (cells : List CellDecl) (v : Valuation) (n : ℕ) (start now : List ℕ) : Type 0 where
-  pub rest : now ++ spaced (cell_texts n (drop n cells) v) ≡ start ++ spaced (cell_texts 0 cells v)
+-- the texts of the cells that the first names of the store name were written, and those of the others are left
+pub record CellsWritten (cells : List CellDecl) (v : Valuation) (place : ℕ) (start now : List ℕ) : Type 0 where
+  pub rest : now ++ spaced (entry_texts cells (drop place (map.entries v))) ≡ start ++ spaced (cell_texts 0 cells v)
   pub grown : Grows start now
 
 pub cells-start : (cells : List CellDecl) (v : Valuation) (start : List ℕ) → CellsWritten cells v 0 start start
-cells-start cells v start = record { rest = refl; grown = Grows-refl start }
+cells-start cells v start = record { rest = ap (λ (texts : List (List ℕ)). start ++ spaced texts) (sym (cells-entries cells v)); grown = Grows-refl start }
 
-module _ (cells : List CellDecl) (v : Valuation) (n : ℕ) (start now : List ℕ) (w : CellsWritten cells v n start now) where
-  -- one cell more, which was read from an equal list
-  pub cells-step : (ds : List CellDecl) (d : CellDecl) (value : Value) (after : List ℕ) → ds ≡ cells → n < length ds → d ≡ get_or ds n d → value ≡ value_at v (Declared n) d.cell
-      → after ≡ now ++ spaced (value_texts d.name d.cell value) → CellsWritten cells v (n + 1) start after
-  cells-step ds d value after same lt is e a =
-      let next : drop n cells ≡ d ∷ drop (n + 1) cells = rw add-one (drop-cons cells n d (subst (λ (xs : List CellDecl). n < length xs) same lt) ∙ ap (λ (x : CellDecl). x ∷ drop (suc n) cells) (sym (is ∙ ap (λ (xs : List CellDecl). get_or xs n d) same))) in
-      let own : List ℕ = spaced (value_texts d.name d.cell (value_at v (Declared n) d.cell)) in
-      let written : after ≡ now ++ own = a ∙ ap (λ (x : Value). now ++ spaced (value_texts d.name d.cell x)) e in
-      let later : List ℕ = spaced (cell_texts (n + 1) (drop (n + 1) cells) v) in
-      let texts : spaced (cell_texts n (drop n cells) v) ≡ own ++ later =
-      ap (λ (xs : List CellDecl). spaced (cell_texts n xs v)) next
-      ∙ spaced-append (value_texts d.name d.cell (value_at v (Declared n) d.cell)) (cell_texts (suc n) (drop (n + 1) cells) v)
-      ∙ ap (λ (k : ℕ). own ++ spaced (cell_texts k (drop (n + 1) cells) v)) (sym (add-one n)) in
+module _ (cells : List CellDecl) (v : Valuation) (place : ℕ) (start now : List ℕ) (w : CellsWritten cells v place start now) where
+  -- one name more
+  pub cells-step : (n : CellName) (d : CellDecl) (x : Value) (after : List ℕ) → slice_get (map.keys v) place ≡ Some n → slice_get (map.values v) place ≡ Some x → cell_named cells n ≡ Some d
+      → after ≡ now ++ spaced (value_texts d.name d.cell x) → CellsWritten cells v (place + 1) start after
+  cells-step n d x after key value named written =
+      let own : List ℕ = spaced (value_texts d.name d.cell x) in
+      let later : List ℕ = spaced (entry_texts cells (drop (place + 1) (map.entries v))) in
+      let first : drop place (map.entries v) ≡ (n, x) ∷ drop (place + 1) (map.entries v) = rw add-one (entries-from v place n key x value) in
+      let texts : spaced (entry_texts cells (drop place (map.entries v))) ≡ own ++ later =
+      ap (λ (es : List (CellName × Value)). spaced (entry_texts cells es)) first
+      ∙ ap (λ (c : Option CellDecl). spaced (texts_of c x ++ entry_texts cells (drop (place + 1) (map.entries v)))) named
+      ∙ spaced-append (value_texts d.name d.cell x) (entry_texts cells (drop (place + 1) (map.entries v))) in
       record {
         rest = ap (λ (z : List ℕ). z ++ later) written ∙ append_assoc now own later ∙ ap (λ (z : List ℕ). now ++ z) (sym texts) ∙ w.rest;
         grown = Grows-trans start now after w.grown (own, written);
       }
 
-  -- all cells
-  pub cells-end : length cells ≤ n → now ≡ start ++ spaced (cell_texts 0 cells v)
-  cells-end over =
-      sym (append-nil now) ∙ ap (λ (xs : List CellDecl). now ++ spaced (cell_texts n xs v)) (sym (drop_all n cells over)) ∙ w.rest
+  cells-none : entry_texts cells (drop place (map.entries v)) ≡ [] → now ≡ start ++ spaced (cell_texts 0 cells v)
+  cells-none none = sym (append-nil now) ∙ ap (λ (texts : List (List ℕ)). now ++ spaced texts) (sym none) ∙ w.rest
+
+  -- the name is that of no cell, and so are the later ones
+  pub cells-beyond : (n : CellName) → slice_get (map.keys v) place ≡ Some n → cell_named cells n ≡ None → now ≡ start ++ spaced (cell_texts 0 cells v)
+  cells-beyond n key none = cells-none (texts-after v place n key cells none)
+
+  -- all names
+  pub cells-end : map.len v ≤ place → now ≡ start ++ spaced (cell_texts 0 cells v)
+  cells-end over = cells-none (ap (entry_texts cells) (drop_all place (map.entries v) (omega (arith, map.len-entries v))))

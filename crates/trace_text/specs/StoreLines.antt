@@ -1,5 +1,5 @@
 -- The line of a store: what is told of the declared cells, in order of declaration, with one space between each two texts. This project's own.
-use Rattle.std.specs.Prelude.{ℕ, suc, Bool, true, false, if◌then◌else◌, ℤ, List, [], ◌∷◌, ◌++◌, codes, take, int_lt}
+use Rattle.std.specs.Prelude.{ℕ, suc, Bool, true, false, if◌then◌else◌, ℤ, List, [], ◌∷◌, ◌++◌, codes, take, int_lt, slice_get, Option, None}
 use Rattle.std.specs.Fmt.{signed_decimal}
 use Rattle.std.specs.List.{join_with_byte}
 use Rattle.std.specs.Ordering.{int_eq}
@@ -7,7 +7,8 @@ use Rattle.token_system.specs.declared.cell.Cell.{Cell}
 use Rattle.token_system.specs.declared.cell.Token.TheVariants.{On, Off, AtLeast, AtMost, Clash}
 use Rattle.token_system.specs.declared.cell.Value.{Value}
 use Rattle.token_system.specs.declared.cell.Value.TheVariants as values
-use Rattle.token_system.specs.declared.name.CellName.TheVariants.{Declared}
+use Rattle.token_system.specs.declared.name.CellName.{CellName}
+use Rattle.token_system.specs.declared.name.CellName.TheVariants.{Declared, Local}
 use Rattle.token_system.specs.Texts.{text_of}
 use Rattle.token_system.specs.Values.{bottom_of, value_eq}
 use Rattle.token_system.specs.Stores.{Valuation, value_at}
@@ -44,6 +45,11 @@ value_texts name c v = if value_eq v (bottom_of c) then [] else told_texts name 
 abbrev pub cell_texts : ℕ → List CellDecl → Valuation → List (List ℕ)
 cell_texts n [] v = []
 cell_texts n (d ∷ later) v = value_texts d.name d.cell (value_at v (Declared n) d.cell) ++ cell_texts (suc n) later v
+
+-- the cell that a name has among these, if it has one
+abbrev pub cell_named : List CellDecl → CellName → Option CellDecl
+cell_named cells (Declared n) = slice_get cells n
+cell_named cells (Local node births) = None
 
 abbrev pub store_line : CoreProgram → Valuation → List ℕ
 store_line p v = join_with_byte 32 (cell_texts 0 (take p.declared p.cells) v)

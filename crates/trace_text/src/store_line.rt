@@ -1,21 +1,12 @@
 //! Writing the line of a store.
-ghost use Rattle.std.specs.Prelude.{◌≡◌, ◌++◌, ◌∷◌, [], take, OnErr, OnOk};
-ghost use Rattle.token_system.specs.Stores.{value_at};
+ghost use Rattle.std.specs.Prelude.{◌≡◌, ◌++◌, ◌∷◌, [], option_copied, take, OnErr, OnOk};
 ghost use Rattle.token_system.specs.Texts.{text_of};
-ghost use Rattle.trace_text.specs.StoreLines.{bound_texts, cell_texts, exact_text, store_line, text_if, value_texts};
+ghost use Rattle.trace_text.specs.StoreLines.{bound_texts, cell_named, cell_texts, exact_text, store_line, text_if, value_texts};
 ghost use Rattle.trace_text.specs.Writing.{spaced, Grows};
 
 use agent_core::{CellDecl, Program};
 use itoa::Buffer;
 use token_system::{Cell, CellName, Memory, Store, Token, Value, bottom, token_text};
-
-/// The value of a declared cell.
-fn value_of(store: &Store, number: u32, cell: Cell) -> Value
-    ensures { result ≡ value_at store.now (CellName.Declared number) cell }
-{
-    let name = CellName::Declared(number);
-    store.get(&name).unwrap_or(bottom(cell))
-}
 
 /// Writes the text of a token, and a space behind it.
 fn write_token(name: &[u8], token: Token, into: &mut Vec<u8>) -> Result<(), Memory>
@@ -81,16 +72,29 @@ fn write_cell(decl: &CellDecl, value: Value, into: &mut Vec<u8>) -> Result<(), M
     }
 }
 
-/// Writes the texts of the declared cells, each with a space behind it.
+/// The cell that has this name among the declared ones.
+fn declared_cell<'a>(declared: &'a [CellDecl], name: &CellName) -> Option<&'a CellDecl>
+    ensures { option_copied result ≡ cell_named declared.now name.now }
+{
+    match name {
+        CellName::Declared(number) => declared.get(*number as usize),
+        CellName::Local { .. } => None,
+    }
+}
+
+/// Writes the texts of the declared cells, each with a space behind it. The store's names come in order: the declared
+/// ones first, by number.
 fn write_cells(program: &Program, store: &Store, into: &mut Vec<u8>) -> Result<(), Memory>
     ensures ok { OnOk result (into.new.items
         ≡ into.old.items ++ spaced (cell_texts 0 (take program.now.declared program.now.cells) store.now)) }
     ensures err { OnErr result (Grows into.old.items into.new.items) }
 {
-    let declared = program.declared() as usize;
-    for (number, decl) in program.cells()[..declared].iter().enumerate() {
-        let value = value_of(store, number as u32, decl.cell);
-        write_cell(decl, value, into)?;
+    let declared = &program.cells()[..program.declared() as usize];
+    for place in 0..store.len() {
+        let Some(decl) = declared_cell(declared, store.name_at(place)) else {
+            return Ok(());
+        };
+        write_cell(decl, store.kept_at(place), into)?;
     }
     Ok(())
 }
