@@ -1,5 +1,6 @@
 pub mod SortedClosures
 pub mod Sorts
+pub mod Neighbours
 pub mod Listed
 pub mod StartedLeaves
 pub mod StartedLists

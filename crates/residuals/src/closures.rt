@@ -1,5 +1,5 @@
 //! Closures in their order.
-ghost use Rattle.std.specs.Prelude.{◌≡◌, ◌++◌, IfOk, OnOk};
+ghost use Rattle.std.specs.Prelude.{◌≡◌, ◌++◌, IfOk, IsTrue, OnOk};
 ghost use Rattle.agent_core.specs.Closures.{closure_cmp, sorted};
 
 use agent_core::Closure;
@@ -36,10 +36,25 @@ pub(crate) fn add_copies(list: &mut Vec<Closure>, closures: &[Closure]) -> Resul
     Ok(())
 }
 
-/// Puts the closures in their order, each once.
+/// Whether each closure comes before the one behind it.
+fn is_in_order(closures: &[Closure]) -> bool
+    ensures { IsTrue result → closures.now ≡ sorted closures.now }
+{
+    for place in 1..closures.len() {
+        if closure_order(&closures[place - 1], &closures[place]) != Ordering::Less {
+            return false;
+        }
+    }
+    true
+}
+
+/// Puts the closures in their order, each once. What a net's leaves start mostly comes in order.
 pub(crate) fn sort(closures: &mut Vec<Closure>) -> Result<(), Memory>
     ensures { OnOk result (closures.new.items ≡ sorted closures.old.items) }
 {
+    if is_in_order(closures) {
+        return Ok(());
+    }
     closures.sort_by(|a, b| closure_order(a, b))?;
     closures.dedup_by(|a, b| closure_order(a, b) == Ordering::Equal);
     Ok(())
