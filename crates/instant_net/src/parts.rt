@@ -14,8 +14,13 @@ pub struct Atom {
 }
 
 impl Default for Atom {
+    ghost use Rattle.std.specs.Prelude.{◌≡◌};
+    ghost use Rattle.token_system.specs.declared.cell.Token.TheVariants.{Clash};
+
     /// What stands at the places of a list that it does not use.
-    fn default() -> Atom {
+    fn default() -> Atom
+        ensures { result ≡ record { cell = 0; token = Clash } }
+    {
         Atom {
             cell: 0,
             token: Token::Clash,
