@@ -1,14 +1,11 @@
 -- The atoms of a constraint, by the places of cells among those of a net.
-use Rattle.std.proofs.Common.{◌≡◌, ℕ, ◌+◌, ◌<◌, ◌≤◌, List, [], ◌∷◌, ◌++◌, length, take, drop, get_or, Some, Result, Ok, Err, IfOk, refl, sym, ap, ◌∙◌, subst, arith, ◌⊎◌, inl, inr, None}
+use Rattle.std.proofs.Common.{◌≡◌, ℕ, ◌+◌, ◌<◌, ◌≤◌, List, [], ◌∷◌, ◌++◌, length, take, drop, get_or, Result, Ok, Err, IfOk, refl, sym, ap, ◌∙◌, subst}
 use Rattle.std.specs.Prelude.{Option, All, slice_get}
-use Rattle.std.specs.declared.cmp.Ordering.TheVariants.{Equal}
 use Rattle.std.proofs.lemmas.List.{append_assoc, take_more, take_all, drop_more}
 use Rattle.std.proofs.lemmas.List.Elements.{All-contains, All-push, All-nil}
-use Rattle.std.proofs.lemmas.Option.{slice_get_cases}
 use Rattle.token_system.specs.declared.cell.Cell.{Cell}
 use Rattle.token_system.specs.declared.cell.Token.{Token}
 use Rattle.token_system.specs.declared.name.CellName.{CellName}
-use Rattle.token_system.specs.Names.{name_cmp, name_cmp-IsAntisymmetric}
 use Rattle.token_system.specs.Tokens.{Fits}
 use Rattle.agent_core.specs.declared.node.CellDecl.{CellDecl}
 use Rattle.agent_core.specs.Agents.{Ask}
@@ -23,11 +20,6 @@ use Rattle.instant_net.specs.Programs.{token_named, ask_named}
 use Rattle.instant_net.specs.Walks.{IsNamed, IsPlaceOf, IsAtomOf, AreAtomsOf}
 use Rattle.instant_net.proofs.Lists.{same-elements}
 
--- what a number that was made of another is
-pub if_number : {E : Type 0} (P : ℕ → Type 0) (r : Result ℕ E) (n : ℕ) → IfOk r (λ m. m ≡ n) → P n → IfOk r P
-if_number P (Ok m) n e h = subst P (sym e) h
-if_number P (Err e) n h g = tt
-
 -- what holds of the value of an answer
 pub if_ok : {X E : Type 0} (P Q : X → Type 0) (r : Result X E) → ((x : X) → P x → Q x) → IfOk r P → IfOk r Q
 if_ok P Q (Ok x) f h = f x h
@@ -36,14 +28,6 @@ if_ok P Q (Err e) f h = tt
 pub if_both : {X E : Type 0} (P Q R : X → Type 0) (r : Result X E) → ((x : X) → P x → Q x → R x) → IfOk r P → IfOk r Q → IfOk r R
 if_both P Q R (Ok x) f h g = f x h g
 if_both P Q R (Err e) f h g = tt
-
--- a place at which a search found the name
-pub place-found : (cells : List NetCell) (n : CellName) (i : ℕ) → i < length cells → ((d : NetCell) → name_cmp (get_or cells i d).name n ≡ Equal) → IsPlaceOf cells n i
-place-found cells n i lt equal = go (slice_get_cases cells i).1
-  where
-    go : ((x : NetCell) × (i < length cells) × (slice_get cells i ≡ Some x) × (get_or cells i x ≡ x)) ⊎ ((length cells ≤ i) × (slice_get cells i ≡ None)) → IsPlaceOf cells n i
-    go (inl h) = record { found = h.0; stands = h.2; named = name_cmp-IsAntisymmetric h.0.name n (subst (λ (c : NetCell). name_cmp c.name n ≡ Equal) h.3 (equal h.0)) }
-    go (inr h) = absurd (let le = h.0 in omega arith)
 
 module _ (p : CoreProgram) (cells : List NetCell) (b : List ℕ) where
   -- the token at the place that was found for its name

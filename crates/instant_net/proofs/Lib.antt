@@ -6,6 +6,7 @@ pub mod Atoms
 pub mod NodeLeaves
 pub mod NodeParts
 pub mod Adding
+pub mod Covering
 pub mod SpokenNames
 pub mod Cells
 pub mod NetsMade
@@ -17,6 +18,7 @@ pub mod WordPlaces
 pub mod WordOrders
 pub mod WordValues
 pub mod StoreLookups
+pub mod CellPlaces
 pub mod TokenTells
 pub mod WordStores
 pub mod NetParts

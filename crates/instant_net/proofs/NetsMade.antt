@@ -26,6 +26,8 @@ use Rattle.instant_net.proofs.Lists.{All-by_get}
 pub cells-named : (p : CoreProgram) (table : List ℕ) (ls : List Leaf) (cells : List NetCell) (locals : List Local) → AreCellsFor p table ls cells → AreLocalsOf p locals → AreNamed p locals cells
 cells-named p table ls cells locals h all = record {
   each = All-weaker (IsCellOf p table) (IsNamed p) (λ c x. record { decl = x.decl; named = x.named; cell = x.cell }) cells h.each;
+  order = h.order;
+  few = h.few;
   declared = λ k lt. let at = h.declared k lt in record { found = at.0; stands = at.1; named = at.2 };
   locals_are = all;
 }

@@ -51,13 +51,16 @@ first_name c [] j d o e = absurd (cc)
 first_name c (x ∷ cells) zero d o e = let same : x ≡ d = cc in subst (λ (y : NetCell). name_cmp c.name y.name ≡ Less) same o.0
 first_name c (x ∷ cells) (suc j) d o e = name_total.trans c.name x.name d.name o.0 (first_name x cells j d o.1 e)
 
-pub names_apart : (cells : List NetCell) (i j : ℕ) (c d : NetCell) → AreInOrder cells → slice_get cells i ≡ Some c → slice_get cells j ≡ Some d → i < j → c.name ≢ d.name
-names_apart [] i j c d o e f h = absurd (cc)
-names_apart (x ∷ cells) i zero c d o e f h = absurd (omega arith)
-names_apart (x ∷ cells) zero (suc j) c d o e f h =
+pub names_rise : (cells : List NetCell) (i j : ℕ) (c d : NetCell) → AreInOrder cells → slice_get cells i ≡ Some c → slice_get cells j ≡ Some d → i < j → name_cmp c.name d.name ≡ Less
+names_rise [] i j c d o e f h = absurd (cc)
+names_rise (x ∷ cells) i zero c d o e f h = absurd (omega arith)
+names_rise (x ∷ cells) zero (suc j) c d o e f h =
     let same : x ≡ c = cc in
-    subst (λ (y : NetCell). y.name ≢ d.name) same (less_differs x.name d.name (first_name x cells j d o f))
-names_apart (x ∷ cells) (suc i) (suc j) c d o e f h = names_apart cells i j c d (in_order_tail x cells o) e f (omega arith)
+    subst (λ (y : NetCell). name_cmp y.name d.name ≡ Less) same (first_name x cells j d o f)
+names_rise (x ∷ cells) (suc i) (suc j) c d o e f h = names_rise cells i j c d (in_order_tail x cells o) e f (omega arith)
+
+pub names_apart : (cells : List NetCell) (i j : ℕ) (c d : NetCell) → AreInOrder cells → slice_get cells i ≡ Some c → slice_get cells j ≡ Some d → i < j → c.name ≢ d.name
+names_apart cells i j c d o e f h = less_differs c.name d.name (names_rise cells i j c d o e f h)
 
 -- WHAT IS STORED
 

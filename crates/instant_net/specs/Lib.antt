@@ -8,5 +8,6 @@ pub mod Opened
 pub mod Outputs
 pub mod Locals
 pub mod Walks
+pub mod Covering
 pub mod Collecting
 pub mod Laws

@@ -16,6 +16,7 @@ use Rattle.instant_net.specs.declared.parts.NetLeaf.{NetLeaf}
 use Rattle.instant_net.specs.Locals.{AreLocalsOf}
 use Rattle.instant_net.specs.NamedLeaves.{Guard, Leaf}
 use Rattle.instant_net.specs.Occurrences.{Occurrence, occurrences_of}
+use Rattle.instant_net.specs.Opened.{AreInOrder}
 use Rattle.instant_net.specs.Nets.{AtomFits, named_at, named, named_guard, named_kind, atoms_of}
 use Rattle.instant_net.specs.Programs.{token_named, ask_named, guard_named, leaf_named, occurrence_named}
 
@@ -36,9 +37,11 @@ pub record IsPlaceOf (cells : List NetCell) (n : CellName) (place : ℕ) : Type 
   pub stands : slice_get cells place ≡ Some found
   pub named : found.name ≡ n
 
--- the cells are those of their names, that of a declared one at its number, and these are the program's local cells
+-- the cells are those of their names, in order, that of a declared one at its number, no more than 32 bits can number, and these are the program's local cells
 pub record AreNamed (p : CoreProgram) (locals : List Local) (cells : List NetCell) : Type 0 where
   pub each : All (IsNamed p) cells
+  pub order : AreInOrder cells
+  pub few : length cells < 4294967296
   pub declared : (k : ℕ) → k < p.declared → IsPlaceOf cells (Declared k) k
   pub locals_are : AreLocalsOf p locals
 

@@ -12,6 +12,7 @@ ghost use Rattle.agent_laws.specs.Laws.{AreClosures};
 ghost use Rattle.agent_laws.specs.Ways.{cell_named};
 ghost use Rattle.instant_net.specs.Programs.{root_leaves};
 ghost use Rattle.instant_net.specs.Locals.{AreLocalsOf};
+ghost use Rattle.instant_net.specs.Covering.{CoversAsk, CoversNode, RootsCovered};
 ghost use Rattle.instant_net.specs.Collecting.{IsLocal, IsSpokenBy, AddsAsked, AddsSpoken, cell_names, declared_names, IsRow, AreCellsFor};
 
 use crate::locals::{Local, local_of};
@@ -41,7 +42,8 @@ impl Collector<'_> {
     ) -> Result<(), Memory>
         requires locals { AreLocalsOf self.now.program.now self.now.locals.now }
         requires fits { AskFits self.now.program.now births.now ask.now }
-        ensures { IfOk result (λ _. AddsAsked self.now.program.now births.now ask.now names.old.keys names.new.keys) }
+        ensures spoken { IfOk result (λ _. AddsAsked self.now.program.now births.now ask.now names.old.keys names.new.keys) }
+        ensures covered { IfOk result (λ _. CoversAsk self.now.program.now births.now ask.now names.old.keys names.new.keys) }
     {
         for (cell, _) in ask.list() {
             if *cell >= self.program.declared() {
@@ -61,7 +63,8 @@ impl Collector<'_> {
     ) -> Result<(), Memory>
         requires locals { AreLocalsOf self.now.program.now self.now.locals.now }
         requires closure { IsClosure self.now.program.now node births.now }
-        ensures { IfOk result (λ _. AddsSpoken self.now.program.now self.now.t node births.now names.old.keys names.new.keys) }
+        ensures spoken { IfOk result (λ _. AddsSpoken self.now.program.now self.now.t node births.now names.old.keys names.new.keys) }
+        ensures covered { IfOk result (λ _. CoversNode self.now.program.now self.now.t node births.now names.old.keys names.new.keys) }
     {
         match &self.program.nodes()[node as usize] {
             Node::Skip | Node::Hence { .. } | Node::Next { .. } => Ok(()),
@@ -93,7 +96,8 @@ fn local_names(
 ) -> Result<BTreeSet<CellName>, Memory>
     requires locals { AreLocalsOf program.now locals.now }
     requires closures { AreClosures program.now roots.now }
-    ensures { IfOk result (λ names. All (IsSpokenBy program.now (root_leaves program.now roots.now t)) names.keys) }
+    ensures spoken { IfOk result (λ names. All (IsSpokenBy program.now (root_leaves program.now roots.now t)) names.keys) }
+    ensures covered { IfOk result (λ names. RootsCovered program.now t names.keys roots.now) }
 {
     let collector = Collector {
         alloc,
@@ -102,7 +106,7 @@ fn local_names(
         t,
     };
     let mut names = BTreeSet::new(alloc);
-    if locals.is_empty() {
+    if program.cells().len() == program.declared() as usize {
         return Ok(names);
     }
     for root in roots {
@@ -223,7 +227,8 @@ pub(crate) fn net_cells(
     requires locals { AreLocalsOf program.now locals.now }
     requires levels { length levels.now ≡ length program.now.cells }
     requires closures { AreClosures program.now roots.now }
-    ensures { IfOk result (λ cells. AreCellsFor program.now levels.now (root_leaves program.now roots.now t) cells.items) }
+    ensures cells { IfOk result (λ cells. AreCellsFor program.now levels.now (root_leaves program.now roots.now t) cells.items) }
+    ensures covered { IfOk result (λ cells. RootsCovered program.now t (cell_names cells.items) roots.now) }
 {
     let names = local_names(alloc, program, locals, roots, t)?;
     let mut row = Row {

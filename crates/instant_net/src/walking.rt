@@ -1,11 +1,15 @@
 //! The guards and leaves of an instant, by a walk over the nodes of its roots.
-ghost use Rattle.std.specs.Prelude.{◌≡◌, ◌<◌, ◌++◌, ◌∷◌, [], IfOk, length, None};
+ghost use Rattle.std.specs.Prelude.{◌≡◌, ◌<◌, ◌++◌, ◌∷◌, [], Contains, IfOk, length, None};
 ghost use Rattle.token_system.specs.Names.{name_cmp};
 ghost use Rattle.token_system.specs.declared.name.CellName.TheVariants.{Local as LocalName};
+ghost use Rattle.agent_core.specs.Agents.{agent_at};
 ghost use Rattle.agent_core.specs.Names.{IsClosure};
 ghost use Rattle.agent_core.specs.Scope.{TokenFits, AskFits};
 ghost use Rattle.agent_laws.specs.Laws.{AreClosures};
 ghost use Rattle.instant_net.specs.declared.parts.NetGuard.{NetGuard as GuardValue};
+ghost use Rattle.instant_net.specs.Opened.{AreInOrder};
+ghost use Rattle.instant_net.specs.Collecting.{cell_names};
+ghost use Rattle.instant_net.specs.Covering.{TokenCovered, AskCovered, AgentCovered, RootsCovered};
 ghost use Rattle.instant_net.specs.Programs.{root_leaves, root_occurrences};
 ghost use Rattle.instant_net.specs.Walks.{AreNamed, IsPlaceOf, IsAtomOf, AreAtomsOf, IsBegun, IsEnded, Grown, Adds};
 
@@ -14,7 +18,7 @@ use crate::numbers::number_of;
 use crate::parts::{Atom, Atoms, LeafKind, NetCell, NetGuard, NetLeaf};
 use agent_core::{Closure, Constraint, Node, Program};
 use smallvec::SmallVec;
-use std::alloc::{AllocError, Global};
+use std::alloc::Global;
 use std::cmp::Ordering;
 use token_system::{Births, CellName, Memory, Token};
 
@@ -79,13 +83,16 @@ fn compared(name: &CellName, node: u32, births: &[u32]) -> Ordering
     }
 }
 
-/// The place of the local cell of this node and these births.
-fn place_of(cells: &[NetCell], node: u32, births: &[u32]) -> Result<u32, Memory>
-    ensures { IfOk result (λ place. IsPlaceOf cells.now (LocalName node births.now) place) }
+/// The place of the local cell of this node and these births, which is one of the cells.
+fn place_of(cells: &[NetCell], node: u32, births: &[u32]) -> u32
+    requires order { AreInOrder cells.now }
+    requires few { length cells.now < 4294967296 }
+    requires there { Contains (cell_names cells.now) (LocalName node births.now) }
+    ensures { IsPlaceOf cells.now (LocalName node births.now) result }
 {
     match cells.binary_search_by(|cell| compared(&cell.name, node, births)) {
-        Ok(place) => number_of(place),
-        Err(_) => Err(AllocError),
+        Ok(place) => place as u32,
+        Err(_) => unreachable!(),
     }
 }
 
@@ -101,30 +108,33 @@ struct Walk<'a> {
 
 impl Walk<'_> {
     /// The token of a cell under the births, by the cell's place. That of a declared cell is its number.
-    fn atom(&self, births: &[u32], cell: u32, token: Token) -> Result<Atom, Memory>
+    fn atom(&self, births: &[u32], cell: u32, token: Token) -> Atom
         requires named { AreNamed self.now.program.now self.now.locals.now self.now.cells.now }
         requires fits { TokenFits self.now.program.now births.now (record { 0 = cell; 1 = token }) }
-        ensures { IfOk result (IsAtomOf self.now.program.now self.now.cells.now births.now (record { 0 = cell; 1 = token })) }
+        requires covered { TokenCovered self.now.program.now births.now (cell_names self.now.cells.now) (record { 0 = cell; 1 = token }) }
+        ensures { IsAtomOf self.now.program.now self.now.cells.now births.now (record { 0 = cell; 1 = token }) result }
     {
         if cell < self.program.declared() {
-            return Ok(Atom { cell, token });
+            return Atom { cell, token };
         }
         let local = local_of(self.program, self.locals, cell);
         let own = &births[..local.births as usize];
-        let place = place_of(self.cells, local.node, own)?;
-        Ok(Atom { cell: place, token })
+        Atom {
+            cell: place_of(self.cells, local.node, own),
+            token,
+        }
     }
 
     /// The tokens of the constraint under the births.
     fn atoms(&self, births: &[u32], ask: &Constraint) -> Result<Atoms, Memory>
         requires named { AreNamed self.now.program.now self.now.locals.now self.now.cells.now }
         requires fits { AskFits self.now.program.now births.now ask.now }
+        requires covered { AskCovered self.now.program.now births.now (cell_names self.now.cells.now) ask.now }
         ensures { IfOk result (AreAtomsOf self.now.program.now self.now.cells.now births.now ask.now) }
     {
         let mut list = SmallVec::new(self.alloc);
         for (cell, token) in ask.list() {
-            let atom = self.atom(births, *cell, *token)?;
-            list.push(atom)?;
+            list.push(self.atom(births, *cell, *token))?;
         }
         Ok(Atoms::make(list))
     }
@@ -149,6 +159,7 @@ impl Walk<'_> {
     ) -> Result<(), Memory>
         requires named { AreNamed self.now.program.now self.now.locals.now self.now.cells.now }
         requires closure { IsClosure self.now.program.now node births.now }
+        requires covered { AgentCovered self.now.program.now self.now.t (cell_names self.now.cells.now) (agent_at self.now.program.now.nodes node) births.now }
         ensures { IfOk result (λ _. Adds self.now.program.now self.now.cells.now self.now.t node births.now last parts.old.guards.items parts.new.guards.items parts.old.leaves.items parts.new.leaves.items) }
     {
         match &self.program.nodes()[node as usize] {
@@ -201,6 +212,7 @@ pub(crate) fn net_parts(
 ) -> Result<Parts, Memory>
     requires named { AreNamed program.now locals.now cells.now }
     requires closures { AreClosures program.now roots.now }
+    requires covered { RootsCovered program.now t (cell_names cells.now) roots.now }
     ensures { IfOk result (λ parts. Grown cells.now None [] 0 0 parts.guards.items parts.leaves.items (root_occurrences program.now roots.now t) (root_leaves program.now roots.now t)) }
 {
     let walk = Walk {

@@ -3,6 +3,8 @@ use Rattle.instant_net.specs.declared.locals.Local.{Local}
 use Rattle.instant_net.specs.declared.parts.NetCell.{NetCell}
 use Rattle.instant_net.specs.Opened.{IsNetOf}
 use Rattle.instant_net.specs.Programs.{root_leaves, root_occurrences}
+use Rattle.instant_net.specs.Collecting.{cell_names}
+use Rattle.instant_net.specs.Covering.{RootsCovered}
 use Rattle.instant_net.specs.Walks.{AreNamed, Grown}
 use Rattle.instant_net.proofs.NetsMade.{cells-named, net-is, net-fits}
 use Rattle.instant_net.proofs.opening.net_of.Goals as goal
@@ -11,19 +13,23 @@ pub net_parts-requires-clause-named : goal.net_parts-requires-clause-named
 net_parts-requires-clause-named c =
     subst (λ (locals : List Local). AreNamed c.args.program.now locals c.deref-3.result.now) (sym c.deref-2.ensures.value)
     (subst (AreNamed c.args.program.now c.in_ok-locals.locals.items) (sym c.deref-3.ensures.value)
-    (cells-named c.args.program.now c.args.levels.now (root_leaves c.args.program.now c.args.roots.now c.args.t) c.in_ok-cells.cells.items c.in_ok-locals.locals.items c.in_ok-cells.ensures c.in_ok-locals.ensures))
+    (cells-named c.args.program.now c.args.levels.now (root_leaves c.args.program.now c.args.roots.now c.args.t) c.in_ok-cells.cells.items c.in_ok-locals.locals.items c.in_ok-cells.ensures.cells c.in_ok-locals.ensures))
+
+pub net_parts-requires-clause-covered : goal.net_parts-requires-clause-covered
+net_parts-requires-clause-covered c =
+    subst (λ (cells : List NetCell). RootsCovered c.args.program.now c.args.t (cell_names cells) c.args.roots.now) (sym c.deref-3.ensures.value) c.in_ok-cells.ensures.covered
 
 pub make-requires : goal.make-requires
 make-requires c =
     let grown : Grown c.in_ok-cells.cells.items None [] 0 0 c.in_ok-parts.parts.guards.items c.in_ok-parts.parts.leaves.items (root_occurrences c.args.program.now c.args.roots.now c.args.t) (root_leaves c.args.program.now c.args.roots.now c.args.t) =
     subst (λ (cells : List NetCell). Grown cells None [] 0 0 c.in_ok-parts.parts.guards.items c.in_ok-parts.parts.leaves.items (root_occurrences c.args.program.now c.args.roots.now c.args.t) (root_leaves c.args.program.now c.args.roots.now c.args.t)) c.deref-3.ensures.value c.in_ok-parts.ensures in
-    net-fits c.args.program.now c.args.levels.now c.args.roots.now c.args.t c.strata_of.result c.in_ok-cells.cells.items c.in_ok-parts.parts.guards.items c.in_ok-parts.parts.leaves.items c.in_ok-cells.ensures.program c.requires.closures c.requires.levels
-    c.in_ok-cells.ensures grown c.strata_of.ensures c.requires.few (let n = c.len.ensures in let m = c.in_ok-number_of.ensures.fits in omega arith)
+    net-fits c.args.program.now c.args.levels.now c.args.roots.now c.args.t c.strata_of.result c.in_ok-cells.cells.items c.in_ok-parts.parts.guards.items c.in_ok-parts.parts.leaves.items c.in_ok-cells.ensures.cells.program c.requires.closures c.requires.levels
+    c.in_ok-cells.ensures.cells grown c.strata_of.ensures c.requires.few (let n = c.len.ensures in let m = c.in_ok-number_of.ensures.fits in omega arith)
 
 pub returns : goal.returns
 returns c =
     let grown : Grown c.in_ok-cells.cells.items None [] 0 0 c.in_ok-parts.parts.guards.items c.in_ok-parts.parts.leaves.items (root_occurrences c.args.program.now c.args.roots.now c.args.t) (root_leaves c.args.program.now c.args.roots.now c.args.t) =
     subst (λ (cells : List NetCell). Grown cells None [] 0 0 c.in_ok-parts.parts.guards.items c.in_ok-parts.parts.leaves.items (root_occurrences c.args.program.now c.args.roots.now c.args.t) (root_leaves c.args.program.now c.args.roots.now c.args.t)) c.deref-3.ensures.value c.in_ok-parts.ensures in
     subst (IsNetOf c.args.program.now c.args.levels.now c.args.roots.now c.args.t) (sym c.make.ensures)
-    (net-is c.args.program.now c.args.levels.now c.args.roots.now c.args.t c.strata_of.result c.in_ok-cells.cells.items c.in_ok-parts.parts.guards.items c.in_ok-parts.parts.leaves.items c.in_ok-cells.ensures.program c.requires.closures c.requires.levels
-    c.in_ok-cells.ensures grown c.strata_of.ensures)
+    (net-is c.args.program.now c.args.levels.now c.args.roots.now c.args.t c.strata_of.result c.in_ok-cells.cells.items c.in_ok-parts.parts.guards.items c.in_ok-parts.parts.leaves.items c.in_ok-cells.ensures.cells.program c.requires.closures c.requires.levels
+    c.in_ok-cells.ensures.cells grown c.strata_of.ensures)

@@ -3,6 +3,8 @@ use Rattle.agent_core.specs.declared.node.Node.TheVariants as nodes
 use Rattle.agent_core.specs.Names.{IsClosure}
 use Rattle.agent_core.proofs.RestTests.{node_found, own_ask_fits, left_of, right_of, new_body}
 use Rattle.instant_net.specs.Collecting.{AddsAsked, AddsSpoken}
+use Rattle.instant_net.specs.Covering.{CoversAsk, CoversNode}
+use Rattle.instant_net.proofs.Covering.{covers-none, covers-tell, covers-body, covers-par, covers-new}
 use Rattle.instant_net.proofs.Atoms.{if_ok}
 use Rattle.instant_net.proofs.SpokenNames.{spoken-none, spoken-tell, spoken-body, spoken-new, spoken-par}
 use Rattle.instant_net.proofs.NodeParts.{body_of, body-asked}
@@ -43,34 +45,66 @@ add_node-requires-in-Then t c =
     let inside = part.inside in
     (omega arith, (c.requires.locals, part.is_closure))
 
-pub returns-in-Tell : goal.returns-in-Tell
-returns-in-Tell t c =
+pub returns-in-Tell-clause-spoken : goal.returns-in-Tell-clause-spoken
+returns-in-Tell-clause-spoken t c =
     if_ok (λ _. AddsAsked c.args.self.now.program.now c.args.births.now c.in-Tell.told c.args.names.now.keys c.add_ask.new.names.keys) (λ _. AddsSpoken c.args.self.now.program.now c.args.self.now.t c.args.node c.args.births.now c.args.names.now.keys c.add_ask.new.names.keys)
-    c.add_ask.result (λ _ h. spoken-tell c.args.self.now.program.now c.nodes.ensures.program c.args.self.now.t c.args.node c.args.births.now c.in-Tell.told (node_found c.args.self.now.program.now c.nodes.result.now c.args.node c.index-nodes-node.result c.nodes.ensures.all c.requires.closure.node c.index-nodes-node.is ∙ ap Some c.in-Tell.is) c.args.names.now.keys c.add_ask.new.names.keys h) c.add_ask.ensures
+    c.add_ask.result (λ _ h. spoken-tell c.args.self.now.program.now c.nodes.ensures.program c.args.self.now.t c.args.node c.args.births.now c.in-Tell.told (node_found c.args.self.now.program.now c.nodes.result.now c.args.node c.index-nodes-node.result c.nodes.ensures.all c.requires.closure.node c.index-nodes-node.is ∙ ap Some c.in-Tell.is) c.args.names.now.keys c.add_ask.new.names.keys h) c.add_ask.ensures.spoken
 
-pub returns-in_ok-add_node-in-Par : goal.returns-in_ok-add_node-in-Par
-returns-in_ok-add_node-in-Par t c =
+pub returns-in_ok-add_node-in-Par-clause-spoken : goal.returns-in_ok-add_node-in-Par-clause-spoken
+returns-in_ok-add_node-in-Par-clause-spoken t c =
     if_ok (λ _. AddsSpoken c.args.self.now.program.now c.args.self.now.t c.in-Par.right c.args.births.now c.add_node.new.names.keys c.add_node-in-Par.new.names.keys) (λ _. AddsSpoken c.args.self.now.program.now c.args.self.now.t c.args.node c.args.births.now c.args.names.now.keys c.add_node-in-Par.new.names.keys)
-    c.add_node-in-Par.result (λ _ h. spoken-par c.args.self.now.program.now c.nodes.ensures.program c.args.self.now.t c.args.node c.args.births.now c.in-Par.left c.in-Par.right (node_found c.args.self.now.program.now c.nodes.result.now c.args.node c.index-nodes-node.result c.nodes.ensures.all c.requires.closure.node c.index-nodes-node.is ∙ ap Some c.in-Par.is) c.args.names.now.keys c.add_node.new.names.keys c.add_node-in-Par.new.names.keys c.in_ok-add_node-in-Par.ensures h) c.add_node-in-Par.ensures
+    c.add_node-in-Par.result (λ _ h. spoken-par c.args.self.now.program.now c.nodes.ensures.program c.args.self.now.t c.args.node c.args.births.now c.in-Par.left c.in-Par.right (node_found c.args.self.now.program.now c.nodes.result.now c.args.node c.index-nodes-node.result c.nodes.ensures.all c.requires.closure.node c.index-nodes-node.is ∙ ap Some c.in-Par.is) c.args.names.now.keys c.add_node.new.names.keys c.add_node-in-Par.new.names.keys c.in_ok-add_node-in-Par.ensures.spoken h) c.add_node-in-Par.ensures.spoken
 
-pub returns-in_ok-push-in-New : goal.returns-in_ok-push-in-New
-returns-in_ok-push-in-New t c =
+pub returns-in_ok-push-in-New-clause-spoken : goal.returns-in_ok-push-in-New-clause-spoken
+returns-in_ok-push-in-New-clause-spoken t c =
     let grown : c.deref.result.now ≡ c.args.births.now ++ c.args.self.now.t ∷ [] = c.deref.ensures.value ∙ c.in_ok-push-in-New.ensures.items ∙ ap (λ (xs : List ℕ). xs ++ c.args.self.now.t ∷ []) (c.in_ok-inner-in-New.ensures.items_if_clones_equal (λ x y h. h)) in
     if_ok (λ _. AddsSpoken c.args.self.now.program.now c.args.self.now.t c.in-New.body c.deref.result.now c.args.names.now.keys c.add_node-in-New.new.names.keys) (λ _. AddsSpoken c.args.self.now.program.now c.args.self.now.t c.args.node c.args.births.now c.args.names.now.keys c.add_node-in-New.new.names.keys)
-    c.add_node-in-New.result (λ _ h. spoken-new c.args.self.now.program.now c.nodes.ensures.program c.args.self.now.t c.args.node c.args.births.now c.in-New.cell c.in-New.body c.deref.result.now (node_found c.args.self.now.program.now c.nodes.result.now c.args.node c.index-nodes-node.result c.nodes.ensures.all c.requires.closure.node c.index-nodes-node.is ∙ ap Some c.in-New.is) grown c.args.names.now.keys c.add_node-in-New.new.names.keys h) c.add_node-in-New.ensures
+    c.add_node-in-New.result (λ _ h. spoken-new c.args.self.now.program.now c.nodes.ensures.program c.args.self.now.t c.args.node c.args.births.now c.in-New.cell c.in-New.body c.deref.result.now (node_found c.args.self.now.program.now c.nodes.result.now c.args.node c.index-nodes-node.result c.nodes.ensures.all c.requires.closure.node c.index-nodes-node.is ∙ ap Some c.in-New.is) grown c.args.names.now.keys c.add_node-in-New.new.names.keys h) c.add_node-in-New.ensures.spoken
 
-pub returns-in_ok-add_ask-in-Then : goal.returns-in_ok-add_ask-in-Then
-returns-in_ok-add_ask-in-Then t c =
+pub returns-in_ok-add_ask-in-Then-clause-spoken : goal.returns-in_ok-add_ask-in-Then-clause-spoken
+returns-in_ok-add_ask-in-Then-clause-spoken t c =
     if_ok (λ _. AddsSpoken c.args.self.now.program.now c.args.self.now.t c.in-Then.body c.args.births.now c.add_ask-in-Then.new.names.keys c.add_node-in-Then.new.names.keys) (λ _. AddsSpoken c.args.self.now.program.now c.args.self.now.t c.args.node c.args.births.now c.args.names.now.keys c.add_node-in-Then.new.names.keys)
     c.add_node-in-Then.result
-    (λ _ h. spoken-body c.args.self.now.program.now c.nodes.ensures.program c.args.self.now.t c.args.node c.args.births.now c.index-nodes-node.result c.in-Then.ask c.in-Then.body c.in-Then.is (node_found c.args.self.now.program.now c.nodes.result.now c.args.node c.index-nodes-node.result c.nodes.ensures.all c.requires.closure.node c.index-nodes-node.is) c.args.names.now.keys c.add_ask-in-Then.new.names.keys c.add_node-in-Then.new.names.keys c.in_ok-add_ask-in-Then.ensures h)
-    c.add_node-in-Then.ensures
+    (λ _ h. spoken-body c.args.self.now.program.now c.nodes.ensures.program c.args.self.now.t c.args.node c.args.births.now c.index-nodes-node.result c.in-Then.ask c.in-Then.body c.in-Then.is (node_found c.args.self.now.program.now c.nodes.result.now c.args.node c.index-nodes-node.result c.nodes.ensures.all c.requires.closure.node c.index-nodes-node.is) c.args.names.now.keys c.add_ask-in-Then.new.names.keys c.add_node-in-Then.new.names.keys c.in_ok-add_ask-in-Then.ensures.spoken h)
+    c.add_node-in-Then.ensures.spoken
 
-pub returns-in-Skip : goal.returns-in-Skip
-returns-in-Skip t c = spoken-none c.args.self.now.program.now c.nodes.ensures.program c.args.self.now.t c.args.node c.args.births.now c.args.names.now.keys
+pub returns-in-Skip-clause-spoken : goal.returns-in-Skip-clause-spoken
+returns-in-Skip-clause-spoken t c = spoken-none c.args.self.now.program.now c.nodes.ensures.program c.args.self.now.t c.args.node c.args.births.now c.args.names.now.keys
 
-pub returns-in-Skip-2 : goal.returns-in-Skip-2
-returns-in-Skip-2 t c = spoken-none c.args.self.now.program.now c.nodes.ensures.program c.args.self.now.t c.args.node c.args.births.now c.args.names.now.keys
+pub returns-in-Skip-2-clause-spoken : goal.returns-in-Skip-2-clause-spoken
+returns-in-Skip-2-clause-spoken t c = spoken-none c.args.self.now.program.now c.nodes.ensures.program c.args.self.now.t c.args.node c.args.births.now c.args.names.now.keys
 
-pub returns-in-Skip-3 : goal.returns-in-Skip-3
-returns-in-Skip-3 t c = spoken-none c.args.self.now.program.now c.nodes.ensures.program c.args.self.now.t c.args.node c.args.births.now c.args.names.now.keys
+pub returns-in-Skip-3-clause-spoken : goal.returns-in-Skip-3-clause-spoken
+returns-in-Skip-3-clause-spoken t c = spoken-none c.args.self.now.program.now c.nodes.ensures.program c.args.self.now.t c.args.node c.args.births.now c.args.names.now.keys
+
+pub returns-in-Tell-clause-covered : goal.returns-in-Tell-clause-covered
+returns-in-Tell-clause-covered t c =
+    if_ok (λ _. CoversAsk c.args.self.now.program.now c.args.births.now c.in-Tell.told c.args.names.now.keys c.add_ask.new.names.keys) (λ _. CoversNode c.args.self.now.program.now c.args.self.now.t c.args.node c.args.births.now c.args.names.now.keys c.add_ask.new.names.keys)
+    c.add_ask.result (λ _ h. covers-tell c.args.self.now.program.now c.args.self.now.t c.nodes.ensures.program c.args.node c.args.births.now c.in-Tell.told (node_found c.args.self.now.program.now c.nodes.result.now c.args.node c.index-nodes-node.result c.nodes.ensures.all c.requires.closure.node c.index-nodes-node.is ∙ ap Some c.in-Tell.is) c.args.names.now.keys c.add_ask.new.names.keys h) c.add_ask.ensures.covered
+
+pub returns-in_ok-add_node-in-Par-clause-covered : goal.returns-in_ok-add_node-in-Par-clause-covered
+returns-in_ok-add_node-in-Par-clause-covered t c =
+    if_ok (λ _. CoversNode c.args.self.now.program.now c.args.self.now.t c.in-Par.right c.args.births.now c.add_node.new.names.keys c.add_node-in-Par.new.names.keys) (λ _. CoversNode c.args.self.now.program.now c.args.self.now.t c.args.node c.args.births.now c.args.names.now.keys c.add_node-in-Par.new.names.keys)
+    c.add_node-in-Par.result (λ _ h. covers-par c.args.self.now.program.now c.args.self.now.t c.nodes.ensures.program c.args.node c.args.births.now c.in-Par.left c.in-Par.right (node_found c.args.self.now.program.now c.nodes.result.now c.args.node c.index-nodes-node.result c.nodes.ensures.all c.requires.closure.node c.index-nodes-node.is ∙ ap Some c.in-Par.is) c.args.names.now.keys c.add_node.new.names.keys c.add_node-in-Par.new.names.keys c.in_ok-add_node-in-Par.ensures.covered h) c.add_node-in-Par.ensures.covered
+
+pub returns-in_ok-push-in-New-clause-covered : goal.returns-in_ok-push-in-New-clause-covered
+returns-in_ok-push-in-New-clause-covered t c =
+    let grown : c.deref.result.now ≡ c.args.births.now ++ c.args.self.now.t ∷ [] = c.deref.ensures.value ∙ c.in_ok-push-in-New.ensures.items ∙ ap (λ (xs : List ℕ). xs ++ c.args.self.now.t ∷ []) (c.in_ok-inner-in-New.ensures.items_if_clones_equal (λ x y h. h)) in
+    if_ok (λ _. CoversNode c.args.self.now.program.now c.args.self.now.t c.in-New.body c.deref.result.now c.args.names.now.keys c.add_node-in-New.new.names.keys) (λ _. CoversNode c.args.self.now.program.now c.args.self.now.t c.args.node c.args.births.now c.args.names.now.keys c.add_node-in-New.new.names.keys)
+    c.add_node-in-New.result (λ _ h. covers-new c.args.self.now.program.now c.args.self.now.t c.nodes.ensures.program c.args.node c.args.births.now c.in-New.cell c.in-New.body c.deref.result.now (node_found c.args.self.now.program.now c.nodes.result.now c.args.node c.index-nodes-node.result c.nodes.ensures.all c.requires.closure.node c.index-nodes-node.is ∙ ap Some c.in-New.is) grown c.args.names.now.keys c.add_node-in-New.new.names.keys h) c.add_node-in-New.ensures.covered
+
+pub returns-in_ok-add_ask-in-Then-clause-covered : goal.returns-in_ok-add_ask-in-Then-clause-covered
+returns-in_ok-add_ask-in-Then-clause-covered t c =
+    if_ok (λ _. CoversNode c.args.self.now.program.now c.args.self.now.t c.in-Then.body c.args.births.now c.add_ask-in-Then.new.names.keys c.add_node-in-Then.new.names.keys) (λ _. CoversNode c.args.self.now.program.now c.args.self.now.t c.args.node c.args.births.now c.args.names.now.keys c.add_node-in-Then.new.names.keys)
+    c.add_node-in-Then.result
+    (λ _ h. covers-body c.args.self.now.program.now c.args.self.now.t c.nodes.ensures.program c.args.node c.args.births.now c.index-nodes-node.result c.in-Then.ask c.in-Then.body c.in-Then.is (node_found c.args.self.now.program.now c.nodes.result.now c.args.node c.index-nodes-node.result c.nodes.ensures.all c.requires.closure.node c.index-nodes-node.is) c.args.names.now.keys c.add_ask-in-Then.new.names.keys c.add_node-in-Then.new.names.keys c.in_ok-add_ask-in-Then.ensures.covered h)
+    c.add_node-in-Then.ensures.covered
+
+pub returns-in-Skip-clause-covered : goal.returns-in-Skip-clause-covered
+returns-in-Skip-clause-covered t c = covers-none c.args.self.now.program.now c.args.self.now.t c.nodes.ensures.program c.args.node c.args.births.now c.index-nodes-node.result c.in-Skip.is (node_found c.args.self.now.program.now c.nodes.result.now c.args.node c.index-nodes-node.result c.nodes.ensures.all c.requires.closure.node c.index-nodes-node.is) c.args.names.now.keys
+
+pub returns-in-Skip-2-clause-covered : goal.returns-in-Skip-2-clause-covered
+returns-in-Skip-2-clause-covered t c = covers-none c.args.self.now.program.now c.args.self.now.t c.nodes.ensures.program c.args.node c.args.births.now c.index-nodes-node.result c.in-Skip.is (node_found c.args.self.now.program.now c.nodes.result.now c.args.node c.index-nodes-node.result c.nodes.ensures.all c.requires.closure.node c.index-nodes-node.is) c.args.names.now.keys
+
+pub returns-in-Skip-3-clause-covered : goal.returns-in-Skip-3-clause-covered
+returns-in-Skip-3-clause-covered t c = covers-none c.args.self.now.program.now c.args.self.now.t c.nodes.ensures.program c.args.node c.args.births.now c.index-nodes-node.result c.in-Skip.is (node_found c.args.self.now.program.now c.nodes.result.now c.args.node c.index-nodes-node.result c.nodes.ensures.all c.requires.closure.node c.index-nodes-node.is) c.args.names.now.keys

@@ -1,10 +1,14 @@
 use Rattle.std.proofs.Common.{◌≡◌, ℕ, List, [], ◌∷◌, ◌++◌, length, Some, sym, ap, ◌∙◌, subst, arith}
 use Rattle.agent_core.specs.declared.node.Node.TheVariants as nodes
+use Rattle.agent_core.specs.Agents.{agent_at}
 use Rattle.agent_core.specs.Names.{IsClosure}
 use Rattle.agent_core.proofs.RestTests.{node_found, own_ask_fits, left_of, right_of, then_body, else_body, new_body}
 use Rattle.instant_net.specs.declared.parts.LeafKind.TheVariants as kinds
+use Rattle.instant_net.specs.Collecting.{cell_names}
+use Rattle.instant_net.specs.Covering.{AgentCovered}
 use Rattle.instant_net.specs.Walks.{IsEnded, Adds}
 use Rattle.instant_net.proofs.Atoms.{if_ok, if_both}
+use Rattle.instant_net.proofs.Covering.{parts-covered}
 use Rattle.instant_net.proofs.Adding.{adds-skip, adds-tell, adds-hence, adds-next, adds-new, adds-par, adds-then, adds-else}
 use Rattle.instant_net.proofs.walking.Walk.+add_node.Goals as goal
 
@@ -17,33 +21,42 @@ atoms-requires-in-Then-clause-fits t c = own_ask_fits c.args.self.now.program.no
 pub atoms-requires-in-Else-clause-fits : goal.atoms-requires-in-Else-clause-fits
 atoms-requires-in-Else-clause-fits t c = own_ask_fits c.args.self.now.program.now c.nodes.ensures.program c.args.node c.args.births.now c.requires.closure (nodes.Else c.in-Else.ask c.in-Else.body) (node_found c.args.self.now.program.now c.nodes.result.now c.args.node c.index-nodes-node.result c.nodes.ensures.all c.requires.closure.node c.index-nodes-node.is ∙ ap Some c.in-Else.is)
 
+pub atoms-requires-clause-covered : goal.atoms-requires-clause-covered
+atoms-requires-clause-covered t c = parts-covered c.args.self.now.program.now c.args.self.now.t c.nodes.ensures.program c.args.node c.args.births.now (nodes.Tell c.in-Tell.told) (node_found c.args.self.now.program.now c.nodes.result.now c.args.node c.index-nodes-node.result c.nodes.ensures.all c.requires.closure.node c.index-nodes-node.is ∙ ap Some c.in-Tell.is) (cell_names c.args.self.now.cells.now) c.requires.covered
+
+pub atoms-requires-in-Then-clause-covered : goal.atoms-requires-in-Then-clause-covered
+atoms-requires-in-Then-clause-covered t c = (parts-covered c.args.self.now.program.now c.args.self.now.t c.nodes.ensures.program c.args.node c.args.births.now (nodes.Then c.in-Then.ask c.in-Then.body) (node_found c.args.self.now.program.now c.nodes.result.now c.args.node c.index-nodes-node.result c.nodes.ensures.all c.requires.closure.node c.index-nodes-node.is ∙ ap Some c.in-Then.is) (cell_names c.args.self.now.cells.now) c.requires.covered).0
+
+pub atoms-requires-in-Else-clause-covered : goal.atoms-requires-in-Else-clause-covered
+atoms-requires-in-Else-clause-covered t c = (parts-covered c.args.self.now.program.now c.args.self.now.t c.nodes.ensures.program c.args.node c.args.births.now (nodes.Else c.in-Else.ask c.in-Else.body) (node_found c.args.self.now.program.now c.nodes.result.now c.args.node c.index-nodes-node.result c.nodes.ensures.all c.requires.closure.node c.index-nodes-node.is ∙ ap Some c.in-Else.is) (cell_names c.args.self.now.cells.now) c.requires.covered).0
+
 pub add_node-requires : goal.add_node-requires
 add_node-requires t c =
     let part = then_body c.args.self.now.program.now c.nodes.ensures.program c.args.node c.args.births.now c.requires.closure c.in-Then.ask c.in-Then.body (node_found c.args.self.now.program.now c.nodes.result.now c.args.node c.index-nodes-node.result c.nodes.ensures.all c.requires.closure.node c.index-nodes-node.is ∙ ap Some c.in-Then.is) in
     let above = part.above in
     let inside = part.inside in
-    (omega arith, (c.requires.named, part.is_closure))
+    (omega arith, (c.requires.named, (part.is_closure, (parts-covered c.args.self.now.program.now c.args.self.now.t c.nodes.ensures.program c.args.node c.args.births.now (nodes.Then c.in-Then.ask c.in-Then.body) (node_found c.args.self.now.program.now c.nodes.result.now c.args.node c.index-nodes-node.result c.nodes.ensures.all c.requires.closure.node c.index-nodes-node.is ∙ ap Some c.in-Then.is) (cell_names c.args.self.now.cells.now) c.requires.covered).1)))
 
 pub add_node-requires-in-Else : goal.add_node-requires-in-Else
 add_node-requires-in-Else t c =
     let part = else_body c.args.self.now.program.now c.nodes.ensures.program c.args.node c.args.births.now c.requires.closure c.in-Else.ask c.in-Else.body (node_found c.args.self.now.program.now c.nodes.result.now c.args.node c.index-nodes-node.result c.nodes.ensures.all c.requires.closure.node c.index-nodes-node.is ∙ ap Some c.in-Else.is) in
     let above = part.above in
     let inside = part.inside in
-    (omega arith, (c.requires.named, part.is_closure))
+    (omega arith, (c.requires.named, (part.is_closure, (parts-covered c.args.self.now.program.now c.args.self.now.t c.nodes.ensures.program c.args.node c.args.births.now (nodes.Else c.in-Else.ask c.in-Else.body) (node_found c.args.self.now.program.now c.nodes.result.now c.args.node c.index-nodes-node.result c.nodes.ensures.all c.requires.closure.node c.index-nodes-node.is ∙ ap Some c.in-Else.is) (cell_names c.args.self.now.cells.now) c.requires.covered).1)))
 
 pub add_node-requires-in-Par : goal.add_node-requires-in-Par
 add_node-requires-in-Par t c =
     let part = left_of c.args.self.now.program.now c.nodes.ensures.program c.args.node c.args.births.now c.requires.closure c.in-Par.left c.in-Par.right (node_found c.args.self.now.program.now c.nodes.result.now c.args.node c.index-nodes-node.result c.nodes.ensures.all c.requires.closure.node c.index-nodes-node.is ∙ ap Some c.in-Par.is) in
     let above = part.above in
     let inside = part.inside in
-    (omega arith, (c.requires.named, part.is_closure))
+    (omega arith, (c.requires.named, (part.is_closure, (parts-covered c.args.self.now.program.now c.args.self.now.t c.nodes.ensures.program c.args.node c.args.births.now (nodes.Par c.in-Par.left c.in-Par.right) (node_found c.args.self.now.program.now c.nodes.result.now c.args.node c.index-nodes-node.result c.nodes.ensures.all c.requires.closure.node c.index-nodes-node.is ∙ ap Some c.in-Par.is) (cell_names c.args.self.now.cells.now) c.requires.covered).0)))
 
 pub add_node-requires-in-Par-2 : goal.add_node-requires-in-Par-2
 add_node-requires-in-Par-2 t c =
     let part = right_of c.args.self.now.program.now c.nodes.ensures.program c.args.node c.args.births.now c.requires.closure c.in-Par.left c.in-Par.right (node_found c.args.self.now.program.now c.nodes.result.now c.args.node c.index-nodes-node.result c.nodes.ensures.all c.requires.closure.node c.index-nodes-node.is ∙ ap Some c.in-Par.is) in
     let above = part.above in
     let inside = part.inside in
-    (omega arith, (c.requires.named, part.is_closure))
+    (omega arith, (c.requires.named, (part.is_closure, (parts-covered c.args.self.now.program.now c.args.self.now.t c.nodes.ensures.program c.args.node c.args.births.now (nodes.Par c.in-Par.left c.in-Par.right) (node_found c.args.self.now.program.now c.nodes.result.now c.args.node c.index-nodes-node.result c.nodes.ensures.all c.requires.closure.node c.index-nodes-node.is ∙ ap Some c.in-Par.is) (cell_names c.args.self.now.cells.now) c.requires.covered).1)))
 
 pub add_node-requires-in-New : goal.add_node-requires-in-New
 add_node-requires-in-New t c =
@@ -51,7 +64,7 @@ add_node-requires-in-New t c =
     let part = new_body c.args.self.now.program.now c.nodes.ensures.program c.args.node c.args.births.now c.requires.closure c.in-New.cell c.in-New.body c.args.self.now.t (node_found c.args.self.now.program.now c.nodes.result.now c.args.node c.index-nodes-node.result c.nodes.ensures.all c.requires.closure.node c.index-nodes-node.is ∙ ap Some c.in-New.is) in
     let above = part.above in
     let inside = part.inside in
-    (omega arith, (c.requires.named, subst (IsClosure c.args.self.now.program.now c.in-New.body) (sym grown) part.is_closure))
+    (omega arith, (c.requires.named, (subst (IsClosure c.args.self.now.program.now c.in-New.body) (sym grown) part.is_closure, subst (AgentCovered c.args.self.now.program.now c.args.self.now.t (cell_names c.args.self.now.cells.now) (agent_at c.args.self.now.program.now.nodes c.in-New.body)) (sym grown) (parts-covered c.args.self.now.program.now c.args.self.now.t c.nodes.ensures.program c.args.node c.args.births.now (nodes.New c.in-New.cell c.in-New.body) (node_found c.args.self.now.program.now c.nodes.result.now c.args.node c.index-nodes-node.result c.nodes.ensures.all c.requires.closure.node c.index-nodes-node.is ∙ ap Some c.in-New.is) (cell_names c.args.self.now.cells.now) c.requires.covered))))
 
 pub returns-in-Skip : goal.returns-in-Skip
 returns-in-Skip t c =
