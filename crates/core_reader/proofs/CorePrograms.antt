@@ -2,7 +2,7 @@
 use Rattle.std.proofs.Common.{◌≡◌, ℕ, suc, ◌+◌, ◌-◌, List, [], length, refl, ap, sym, ◌∙◌, arith, subst, length-append}
 use Rattle.std.specs.Prelude.{All, map, filter_map}
 use Rattle.std.proofs.lemmas.List.{length-map}
-use Rattle.program_grammar.specs.Phrases.{Program as Phrase}
+use Rattle.program_grammar.specs.Phrases.{ProgramPhrase as Phrase}
 use Rattle.agent_core.specs.declared.node.CellDecl.{CellDecl}
 use Rattle.agent_core.specs.declared.node.Node.{Node}
 use Rattle.agent_core.specs.Programs.{CoreProgram}

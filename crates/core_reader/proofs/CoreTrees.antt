@@ -1,7 +1,8 @@
 -- The tree of a phrase of the core is that of an agent.
 use Rattle.std.proofs.Common.{◌≡◌, ℕ, ◌+◌, List, [], ◌∷◌, length, true, refl, ap, ◌∙◌}
 use Rattle.program_lexemes.proofs.PrefixLengths.{and_left, and_right}
-use Rattle.program_grammar.specs.Phrases.{Unit', Nothing, Tell, Braces, IfThen, IfElse, LocalSignal, LocalInt, Henceforth, AtNext, Ever, Whenever, Watch, Timed, Agent, Only, Par, Program, Runs, Signals, Ints}
+use Rattle.program_grammar.specs.Phrases.{UnitPhrase, Tell, Braces, IfThen, IfElse, LocalSignal, LocalInt, AgentPhrase, Only, Par, ProgramPhrase, Runs, Signals, Ints}
+use Rattle.program_grammar.specs.Phrases as phrases
 use Rattle.program_grammar.specs.Programs.{is_core_unit, is_core_agent, is_core}
 use Rattle.agent_core.specs.Agents as core
 use Rattle.tdcc_reader.specs.Trees.{Tree}
@@ -25,32 +26,32 @@ agent_of (tree.Watch a c) = core.Skip
 agent_of (tree.Time a c) = core.Skip
 
 mutual
-  unit_core : (u : Unit') (s : List Placed) (n : ℕ) → is_core_unit u ≡ true → tree_of (agent_of (unit_tree u s n)) ≡ unit_tree u s n
-  unit_core Nothing s n e = refl
+  unit_core : (u : UnitPhrase) (s : List Placed) (n : ℕ) → is_core_unit u ≡ true → tree_of (agent_of (unit_tree u s n)) ≡ unit_tree u s n
+  unit_core phrases.Skip s n e = refl
   unit_core (Tell c) s n e = refl
   unit_core (Braces a) s n e = agent_core a s n e
   unit_core (IfThen c u) s n e = ap (tree.Then (ask_of s c)) (unit_core u s n e)
   unit_core (IfElse c u) s n e = ap (tree.Else (ask_of s c)) (unit_core u s n e)
   unit_core (LocalSignal x u) s n e = ap (tree.New n) (unit_core u (placed x n ∷ s) (n + 1) e)
   unit_core (LocalInt x l h u) s n e = ap (tree.New n) (unit_core u (placed x n ∷ s) (n + 1) e)
-  unit_core (Henceforth u) s n e = ap tree.Hence (unit_core u s n e)
-  unit_core (AtNext u) s n e = ap tree.Next (unit_core u s n e)
-  unit_core (Ever u) s n e = cc
-  unit_core (Whenever c u) s n e = cc
-  unit_core (Watch a c) s n e = cc
-  unit_core (Timed a c) s n e = cc
+  unit_core (phrases.Hence u) s n e = ap tree.Hence (unit_core u s n e)
+  unit_core (phrases.Next u) s n e = ap tree.Next (unit_core u s n e)
+  unit_core (phrases.Always u) s n e = cc
+  unit_core (phrases.When c u) s n e = cc
+  unit_core (phrases.Watching a c) s n e = cc
+  unit_core (phrases.TimeOn a c) s n e = cc
 
-  agent_core : (a : Agent) (s : List Placed) (n : ℕ) → is_core_agent a ≡ true → tree_of (agent_of (agent_tree a s n)) ≡ agent_tree a s n
+  agent_core : (a : AgentPhrase) (s : List Placed) (n : ℕ) → is_core_agent a ≡ true → tree_of (agent_of (agent_tree a s n)) ≡ agent_tree a s n
   agent_core (Only u) s n e = unit_core u s n e
   agent_core (Par u a) s n e =
       ap (λ t. tree.Par t (tree_of (agent_of (agent_tree a s (n + length (unit_cells u)))))) (unit_core u s n (and_left (is_core_unit u) (is_core_agent a) e))
       ∙ ap (tree.Par (unit_tree u s n)) (agent_core a s (n + length (unit_cells u)) (and_right (is_core_unit u) (is_core_agent a) e))
 
-core_from : (p : Program) (s : List Placed) (n : ℕ) → is_core p ≡ true → tree_of (agent_of (tree_from p s n)) ≡ tree_from p s n
+core_from : (p : ProgramPhrase) (s : List Placed) (n : ℕ) → is_core p ≡ true → tree_of (agent_of (tree_from p s n)) ≡ tree_from p s n
 core_from (Runs a) s n e = agent_core a s n e
 core_from (Signals ns p) s n e = core_from p (names_scope ns s n) (n + length (names_cells ns)) e
 core_from (Ints is p) s n e = core_from p (items_scope is s n) (n + length (items_cells is)) e
 
 -- The tree of a program of the core is that of an agent.
-pub program_core : (p : Program) → is_core p ≡ true → tree_of (agent_of (program_tree p)) ≡ program_tree p
+pub program_core : (p : ProgramPhrase) → is_core p ≡ true → tree_of (agent_of (program_tree p)) ≡ program_tree p
 program_core p e = core_from p [] 0 e

@@ -1,6 +1,6 @@
 -- The core programs that core texts are, and why a text is none. This project's own.
 use Rattle.std.specs.Prelude.{◌≡◌, ℕ, ◌<◌, ◌≤◌, List, length, map, Result, MatchResult}
-use Rattle.program_grammar.specs.Phrases.{Program as Phrase}
+use Rattle.program_grammar.specs.Phrases.{ProgramPhrase as Phrase}
 use Rattle.agent_core.specs.Agents.{Agent}
 use Rattle.agent_core.specs.Programs.{CoreProgram}
 use Rattle.agent_core.specs.Listing.{listing}

@@ -1,6 +1,6 @@
 // A core text, read.
 ghost use Rattle.std.specs.Prelude.{◌≡◌, IfErr, IfOk, MatchResult};
-ghost use Rattle.program_grammar.specs.Phrases.{Program as Phrase};
+ghost use Rattle.program_grammar.specs.Phrases.{ProgramPhrase as Phrase};
 ghost use Rattle.tdcc_reader.specs.declared.fault.ReadFault as ReadFault;
 ghost use Rattle.core_reader.specs.Readings.{AcceptsCore, IsCoreOf, IsCoreText, RefusesCore};
 

@@ -57,7 +57,7 @@ domain_written l h space {text} law white cut w =
     (number_written h space high white cut w)))
 
 -- a new node's cell, and what is behind it
-local_written : (x : List ℕ) (k : Kind) (l h : ℤ) (law : IsTrue (is_cell k l h)) (u : g.Unit') (rest : List ℕ) (terms : List Term) → IsCoreName x → Written rest (unit u terms)
+local_written : (x : List ℕ) (k : Kind) (l h : ℤ) (law : IsTrue (is_cell k l h)) (u : g.UnitPhrase) (rest : List ℕ) (terms : List Term) → IsCoreName x → Written rest (unit u terms)
     → let d : CellDecl = record { name = x; cell = record { kind = k; lo = l; hi = h; lawful = law } } in Written (codes "new " ++ (decl_text d ++ (codes " in " ++ rest))) (unit (local_phrase k d u) terms)
 local_written x kinds.Signal l h law u rest terms name w =
     more_written (codes "new") kind.Keyword (32 ∷ []) New refl refl refl refl refl
@@ -75,7 +75,7 @@ local_written x kinds.Number l h law u rest terms name w =
     (more_written (codes "in") kind.Keyword (32 ∷ []) In refl refl refl refl refl w))))))
 
 -- the line of a declared cell, and what is behind it
-decl_written : (x : List ℕ) (k : Kind) (l h : ℤ) (law : IsTrue (is_cell k l h)) (q : g.Program) (rest : List ℕ) → IsCoreName x → Written rest (program q [])
+decl_written : (x : List ℕ) (k : Kind) (l h : ℤ) (law : IsTrue (is_cell k l h)) (q : g.ProgramPhrase) (rest : List ℕ) → IsCoreName x → Written rest (program q [])
     → let d : CellDecl = record { name = x; cell = record { kind = k; lo = l; hi = h; lawful = law } } in Written (decl_text d ++ (codes ";\n" ++ rest)) (program (decl_phrase k d q) [])
 decl_written x kinds.Signal l h law q rest name w =
     same_written (append_assoc (codes "signal ") x (codes ";\n" ++ rest))
@@ -90,7 +90,7 @@ decl_written x kinds.Number l h law q rest name w =
     (domain_written l h [] law refl refl
     (more_written (codes ";") kind.Symbol (10 ∷ []) Semicolon refl refl refl refl refl w)))))
 
-decls_written : (ds : List CellDecl) (q : g.Program) (rest : List ℕ) → ((i : ℕ) (d : CellDecl) → slice_get ds i ≡ Some d → IsCoreName d.name) → Written rest (program q []) → Written (decl_lines ds ++ rest) (program (decls_phrase ds q) [])
+decls_written : (ds : List CellDecl) (q : g.ProgramPhrase) (rest : List ℕ) → ((i : ℕ) (d : CellDecl) → slice_get ds i ≡ Some d → IsCoreName d.name) → Written rest (program q []) → Written (decl_lines ds ++ rest) (program (decls_phrase ds q) [])
 decls_written [] q rest names w = w
 decls_written (d ∷ ds) q rest names w =
     same_written (append_three (decl_text d) (codes ";\n") (decl_lines ds) rest)

@@ -55,12 +55,12 @@ signal_seen x l h law =
 number_seen : (x : List ℕ) (l h : ℤ) → IsTrue (is_cell Number l h) → declared x Number l h ≡ number x l h
 number_seen x l h law = ap (λ (b : Bool). cond b (declared x Number l h) (signal x)) (sym law)
 
-local_cells : (x : List ℕ) (k : Kind) (l h : ℤ) (law : IsTrue (is_cell k l h)) (u : g.Unit')
+local_cells : (x : List ℕ) (k : Kind) (l h : ℤ) (law : IsTrue (is_cell k l h)) (u : g.UnitPhrase)
     → unit_cells (local_phrase k (record { name = x; cell = record { kind = k; lo = l; hi = h; lawful = law } }) u) ≡ declared x k l h ∷ unit_cells u
 local_cells x Signal l h law u = ap (λ (d : Declared). d ∷ unit_cells u) (sym (signal_seen x l h law))
 local_cells x Number l h law u = ap (λ (d : Declared). d ∷ unit_cells u) (sym (number_seen x l h law))
 
-unit_cells-as_unit : (a : g.Agent) → unit_cells (as_unit_phrase a) ≡ agent_cells a
+unit_cells-as_unit : (a : g.AgentPhrase) → unit_cells (as_unit_phrase a) ≡ agent_cells a
 unit_cells-as_unit (g.Only u) = refl
 unit_cells-as_unit (g.Par u a) = refl
 
@@ -91,16 +91,16 @@ module _ (p : CoreProgram) where
 
 -- DECLARATIONS
 
-decl_cells : (x : List ℕ) (k : Kind) (l h : ℤ) (law : IsTrue (is_cell k l h)) (q : g.Program)
+decl_cells : (x : List ℕ) (k : Kind) (l h : ℤ) (law : IsTrue (is_cell k l h)) (q : g.ProgramPhrase)
     → let d : CellDecl = record { name = x; cell = record { kind = k; lo = l; hi = h; lawful = law } } in (declared_cells (decl_phrase k d q) ≡ declared x k l h ∷ declared_cells q) × (program_cells (decl_phrase k d q) ≡ declared x k l h ∷ program_cells q)
 decl_cells x Signal l h law q = let e = sym (signal_seen x l h law) in (ap (λ (d : Declared). d ∷ declared_cells q) e, ap (λ (d : Declared). d ∷ program_cells q) e)
 decl_cells x Number l h law q = let e = sym (number_seen x l h law) in (ap (λ (d : Declared). d ∷ declared_cells q) e, ap (λ (d : Declared). d ∷ program_cells q) e)
 
-decls_declared : (ds : List CellDecl) (a : g.Agent) → declared_cells (decls_phrase ds (g.Runs a)) ≡ map cell_view ds
+decls_declared : (ds : List CellDecl) (a : g.AgentPhrase) → declared_cells (decls_phrase ds (g.Runs a)) ≡ map cell_view ds
 decls_declared [] a = refl
 decls_declared (d ∷ ds) a = (decl_cells d.name d.cell.kind d.cell.lo d.cell.hi d.cell.lawful (decls_phrase ds (g.Runs a))).0 ∙ ap (λ (q : List Declared). cell_view d ∷ q) (decls_declared ds a)
 
-decls_all : (ds : List CellDecl) (a : g.Agent) → program_cells (decls_phrase ds (g.Runs a)) ≡ map cell_view ds ++ agent_cells a
+decls_all : (ds : List CellDecl) (a : g.AgentPhrase) → program_cells (decls_phrase ds (g.Runs a)) ≡ map cell_view ds ++ agent_cells a
 decls_all [] a = refl
 decls_all (d ∷ ds) a = (decl_cells d.name d.cell.kind d.cell.lo d.cell.hi d.cell.lawful (decls_phrase ds (g.Runs a))).1 ∙ ap (λ (q : List Declared). cell_view d ∷ q) (decls_all ds a)
 

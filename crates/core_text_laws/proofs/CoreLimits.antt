@@ -114,11 +114,11 @@ module _ (p : CoreProgram) where
 
 -- PROGRAMS
 
-decl_within : (k : Kind) (d : CellDecl) (q : g.Program) → ((at : ℕ) → limit_from Core q at ≡ None) → (at : ℕ) → limit_from Core (decl_phrase k d q) at ≡ None
+decl_within : (k : Kind) (d : CellDecl) (q : g.ProgramPhrase) → ((at : ℕ) → limit_from Core q at ≡ None) → (at : ℕ) → limit_from Core (decl_phrase k d q) at ≡ None
 decl_within kinds.Signal d q h at = h _
 decl_within kinds.Number d q h at = h _
 
-decls_within : (ds : List CellDecl) (q : g.Program) → ((at : ℕ) → limit_from Core q at ≡ None) → (at : ℕ) → limit_from Core (decls_phrase ds q) at ≡ None
+decls_within : (ds : List CellDecl) (q : g.ProgramPhrase) → ((at : ℕ) → limit_from Core q at ≡ None) → (at : ℕ) → limit_from Core (decls_phrase ds q) at ≡ None
 decls_within [] q h at = h at
 decls_within (d ∷ ds) q h at = decl_within d.cell.kind d (decls_phrase ds q) (decls_within ds q h) at
 

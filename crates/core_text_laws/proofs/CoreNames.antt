@@ -109,11 +109,11 @@ module _ (p : CoreProgram) where
 
   -- AGENTS
 
-  unit_clean : (a : g.Agent) (scope : List Known) → ((at : ℕ) → agent_fault a scope at ≡ None) → (at : ℕ) → unit_fault (as_unit_phrase a) scope at ≡ None
+  unit_clean : (a : g.AgentPhrase) (scope : List Known) → ((at : ℕ) → agent_fault a scope at ≡ None) → (at : ℕ) → unit_fault (as_unit_phrase a) scope at ≡ None
   unit_clean (g.Only u) scope clean at = clean at
   unit_clean (g.Par u a) scope clean at = clean (at + 1)
 
-  local_clean : (x : List ℕ) (k : Kind) (l h : ℤ) (law : IsTrue (is_cell k l h)) (u : g.Unit') (scope : List Known) → ((at : ℕ) → declared_fault x scope at ≡ None) → ((at : ℕ) → unit_fault u (known x k ∷ scope) at ≡ None)
+  local_clean : (x : List ℕ) (k : Kind) (l h : ℤ) (law : IsTrue (is_cell k l h)) (u : g.UnitPhrase) (scope : List Known) → ((at : ℕ) → declared_fault x scope at ≡ None) → ((at : ℕ) → unit_fault u (known x k ∷ scope) at ≡ None)
       → (at : ℕ) → unit_fault (local_phrase k (record { name = x; cell = record { kind = k; lo = l; hi = h; lawful = law } }) u) scope at ≡ None
   local_clean x Signal l h law u scope decl clean at = neither (declared_fault x scope (at + 2)) (unit_fault u (known x Signal ∷ scope) (at + 4)) (decl (at + 2)) (clean (at + 4))
   local_clean x Number l h law u scope decl clean at =
@@ -159,7 +159,7 @@ module _ (p : CoreProgram) where
 
   -- DECLARATIONS
 
-  decl_clean : (x : List ℕ) (k : Kind) (l h : ℤ) (law : IsTrue (is_cell k l h)) (q : g.Program) (scope : List Known) → ((at : ℕ) → declared_fault x scope at ≡ None) → ((at : ℕ) → fault_from q (known x k ∷ scope) at ≡ None)
+  decl_clean : (x : List ℕ) (k : Kind) (l h : ℤ) (law : IsTrue (is_cell k l h)) (q : g.ProgramPhrase) (scope : List Known) → ((at : ℕ) → declared_fault x scope at ≡ None) → ((at : ℕ) → fault_from q (known x k ∷ scope) at ≡ None)
       → (at : ℕ) → fault_from (decl_phrase k (record { name = x; cell = record { kind = k; lo = l; hi = h; lawful = law } }) q) scope at ≡ None
   decl_clean x Signal l h law q scope decl clean at =
       neither (declared_fault x scope (at + 1)) (fault_from q (known x Signal ∷ scope) (at + 1 + 2)) (decl (at + 1)) (clean (at + 1 + 2))

@@ -79,11 +79,11 @@ module _ (p : CoreProgram) where
 
   -- TREES
 
-  unit_tree-as_unit : (a : g.Agent) (scope : List Placed) (n : ℕ) → unit_tree (as_unit_phrase a) scope n ≡ agent_tree a scope n
+  unit_tree-as_unit : (a : g.AgentPhrase) (scope : List Placed) (n : ℕ) → unit_tree (as_unit_phrase a) scope n ≡ agent_tree a scope n
   unit_tree-as_unit (g.Only u) scope n = refl
   unit_tree-as_unit (g.Par u a) scope n = refl
 
-  local_tree : (k : Kind) (d : CellDecl) (u : g.Unit') (scope : List Placed) (n : ℕ) → unit_tree (local_phrase k d u) scope n ≡ tree.New n (unit_tree u (placed d.name n ∷ scope) (n + 1))
+  local_tree : (k : Kind) (d : CellDecl) (u : g.UnitPhrase) (scope : List Placed) (n : ℕ) → unit_tree (local_phrase k d u) scope n ≡ tree.New n (unit_tree u (placed d.name n ∷ scope) (n + 1))
   local_tree Signal d u scope n = refl
   local_tree Number d u scope n = refl
 
@@ -120,11 +120,11 @@ abbrev decls_scope : List CellDecl → List Placed → ℕ → List Placed
 decls_scope [] scope n = scope
 decls_scope (d ∷ ds) scope n = decls_scope ds (placed d.name n ∷ scope) (n + 1)
 
-decl_tree : (k : Kind) (d : CellDecl) (q : g.Program) (scope : List Placed) (n : ℕ) → tree_from (decl_phrase k d q) scope n ≡ tree_from q (placed d.name n ∷ scope) (n + 1)
+decl_tree : (k : Kind) (d : CellDecl) (q : g.ProgramPhrase) (scope : List Placed) (n : ℕ) → tree_from (decl_phrase k d q) scope n ≡ tree_from q (placed d.name n ∷ scope) (n + 1)
 decl_tree Signal d q scope n = refl
 decl_tree Number d q scope n = refl
 
-decls_tree : (ds : List CellDecl) (a : g.Agent) (scope : List Placed) (n : ℕ) → tree_from (decls_phrase ds (g.Runs a)) scope n ≡ agent_tree a (decls_scope ds scope n) (n + length ds)
+decls_tree : (ds : List CellDecl) (a : g.AgentPhrase) (scope : List Placed) (n : ℕ) → tree_from (decls_phrase ds (g.Runs a)) scope n ≡ agent_tree a (decls_scope ds scope n) (n + length ds)
 decls_tree [] a scope n = ap (agent_tree a scope) (let e : n ≡ n + 0 = omega arith in e)
 decls_tree (d ∷ ds) a scope n =
     decl_tree d.cell.kind d (decls_phrase ds (g.Runs a)) scope n ∙ decls_tree ds a (placed d.name n ∷ scope) (n + 1)

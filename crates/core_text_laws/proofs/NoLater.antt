@@ -15,53 +15,53 @@ IsClean ts = position_or_len is_later (classes ts) ≡ length (classes ts)
 step : {m n : ℕ} → m ≡ n → 1 + m ≡ suc n
 step {m} {n} e = omega (arith, e)
 
-clean_token : (x : g.Token) (rest : List Term) → IsClean rest → IsClean (token x rest)
-clean_token (g.Asserts x) rest h = step h
-clean_token (g.Denies x) rest h = step (step h)
-clean_token (g.Clashes x) rest h = step (step h)
+clean_token : (x : g.TokenPhrase) (rest : List Term) → IsClean rest → IsClean (token x rest)
+clean_token (g.On x) rest h = step h
+clean_token (g.Off x) rest h = step (step h)
+clean_token (g.Clash x) rest h = step (step h)
 clean_token (g.AtLeast x n) rest h = step (step (step h))
 clean_token (g.AtMost x n) rest h = step (step (step h))
 clean_token (g.Exactly x n) rest h = step (step (step h))
 
-clean_constraint : (c : g.Constraint) (rest : List Term) → IsClean rest → IsClean (constraint c rest)
+clean_constraint : (c : g.ConstraintPhrase) (rest : List Term) → IsClean rest → IsClean (constraint c rest)
 clean_constraint (g.One x) rest h = clean_token x rest h
 clean_constraint (g.Both x c) rest h = clean_token x (t.Ampersand ∷ constraint c rest) (step (clean_constraint c rest h))
 
 mutual
-  clean_unit : (u : g.Unit') (rest : List Term) → IsClean rest → IsClean (unit u rest)
-  clean_unit g.Nothing rest h = step h
+  clean_unit : (u : g.UnitPhrase) (rest : List Term) → IsClean rest → IsClean (unit u rest)
+  clean_unit g.Skip rest h = step h
   clean_unit (g.Tell c) rest h = clean_constraint c rest h
   clean_unit (g.Braces a) rest h = step (clean_agent a (t.CloseBrace ∷ rest) (step h))
   clean_unit (g.IfThen c u) rest h = step (clean_constraint c (t.Then ∷ unit u rest) (step (clean_unit u rest h)))
   clean_unit (g.IfElse c u) rest h = step (clean_constraint c (t.Else ∷ unit u rest) (step (clean_unit u rest h)))
   clean_unit (g.LocalSignal x u) rest h = step (step (step (step (clean_unit u rest h))))
   clean_unit (g.LocalInt x l k u) rest h = step (step (step (step (step (step (step (step (clean_unit u rest h))))))))
-  clean_unit (g.Henceforth u) rest h = step (clean_unit u rest h)
-  clean_unit (g.AtNext u) rest h = step (clean_unit u rest h)
-  clean_unit (g.Ever u) rest h = step (clean_unit u rest h)
-  clean_unit (g.Whenever c u) rest h = step (clean_constraint c (t.Do ∷ unit u rest) (step (clean_unit u rest h)))
-  clean_unit (g.Watch a c) rest h = step (clean_agent a (t.Watching ∷ constraint c rest) (step (clean_constraint c rest h)))
-  clean_unit (g.Timed a c) rest h = step (clean_agent a (t.On ∷ constraint c rest) (step (clean_constraint c rest h)))
+  clean_unit (g.Hence u) rest h = step (clean_unit u rest h)
+  clean_unit (g.Next u) rest h = step (clean_unit u rest h)
+  clean_unit (g.Always u) rest h = step (clean_unit u rest h)
+  clean_unit (g.When c u) rest h = step (clean_constraint c (t.Do ∷ unit u rest) (step (clean_unit u rest h)))
+  clean_unit (g.Watching a c) rest h = step (clean_agent a (t.Watching ∷ constraint c rest) (step (clean_constraint c rest h)))
+  clean_unit (g.TimeOn a c) rest h = step (clean_agent a (t.On ∷ constraint c rest) (step (clean_constraint c rest h)))
 
-  clean_agent : (a : g.Agent) (rest : List Term) → IsClean rest → IsClean (agent a rest)
+  clean_agent : (a : g.AgentPhrase) (rest : List Term) → IsClean rest → IsClean (agent a rest)
   clean_agent (g.Only u) rest h = clean_unit u rest h
   clean_agent (g.Par u a) rest h = clean_unit u (t.Bars ∷ agent a rest) (step (clean_agent a rest h))
 
-clean_names : (ns : g.Names) (rest : List Term) → IsClean rest → IsClean (names ns rest)
+clean_names : (ns : g.NamesPhrase) (rest : List Term) → IsClean rest → IsClean (names ns rest)
 clean_names (g.LastName x) rest h = step h
 clean_names (g.MoreName x ns) rest h = step (step (clean_names ns rest h))
 
-clean_items : (is : g.Items) (rest : List Term) → IsClean rest → IsClean (items is rest)
+clean_items : (is : g.ItemsPhrase) (rest : List Term) → IsClean rest → IsClean (items is rest)
 clean_items (g.LastItem x l k) rest h = step (step (step (step (step h))))
 clean_items (g.MoreItem x l k is) rest h = step (step (step (step (step (step (clean_items is rest h))))))
 
-clean_program : (p : g.Program) (rest : List Term) → IsClean rest → IsClean (program p rest)
+clean_program : (p : g.ProgramPhrase) (rest : List Term) → IsClean rest → IsClean (program p rest)
 clean_program (g.Runs a) rest h = clean_agent a rest h
 clean_program (g.Signals ns p) rest h = step (clean_names ns (t.Semicolon ∷ program p rest) (step (clean_program p rest h)))
 clean_program (g.Ints is p) rest h = step (clean_items is (t.Semicolon ∷ program p rest) (step (clean_program p rest h)))
 
 -- The terms of a program have none.
-pub none_later : (p : g.Program) (ts : List Term) → ts ≡ program p [] → position is_later (classes ts) ≡ None
+pub none_later : (p : g.ProgramPhrase) (ts : List Term) → ts ≡ program p [] → position is_later (classes ts) ≡ None
 none_later p ts e =
     ap (λ (xs : List Term). position is_later (classes xs)) e
     ∙ ap (λ (n : ℕ). cond (nat_lt n (length (classes (program p [])))) (Some n) None) (clean_program p [] refl)

@@ -38,15 +38,15 @@ use Rattle.core_text_laws.proofs.CoreAgents.{text_says}
 core_both : (a b : Bool) → a ≡ true → b ≡ true → (a && b) ≡ true
 core_both a b ea eb = ap (λ (x : Bool). x && b) ea ∙ eb
 
-unit_is_core : (a : g.Agent) → is_core_unit (as_unit_phrase a) ≡ is_core_agent a
+unit_is_core : (a : g.AgentPhrase) → is_core_unit (as_unit_phrase a) ≡ is_core_agent a
 unit_is_core (g.Only u) = refl
 unit_is_core (g.Par u a) = refl
 
-local_is_core : (k : Kind) (d : CellDecl) (u : g.Unit') → is_core_unit (local_phrase k d u) ≡ is_core_unit u
+local_is_core : (k : Kind) (d : CellDecl) (u : g.UnitPhrase) → is_core_unit (local_phrase k d u) ≡ is_core_unit u
 local_is_core Signal d u = refl
 local_is_core Number d u = refl
 
-new_is_core : (o : Option CellDecl) (u : g.Unit') → is_core_unit (local_at o u) ≡ is_core_unit u
+new_is_core : (o : Option CellDecl) (u : g.UnitPhrase) → is_core_unit (local_at o u) ≡ is_core_unit u
 new_is_core None u = refl
 new_is_core (Some d) u = local_is_core d.cell.kind d u
 
@@ -61,11 +61,11 @@ agent_is_core cells (core.New cell a) = new_is_core (slice_get cells cell) (as_u
 agent_is_core cells (core.Par l r) =
     core_both (is_core_unit (as_unit_phrase (agent_phrase cells l))) (is_core_agent (agent_phrase cells r)) (unit_is_core (agent_phrase cells l) ∙ agent_is_core cells l) (agent_is_core cells r)
 
-decl_is_core : (k : Kind) (d : CellDecl) (q : g.Program) → is_core (decl_phrase k d q) ≡ is_core q
+decl_is_core : (k : Kind) (d : CellDecl) (q : g.ProgramPhrase) → is_core (decl_phrase k d q) ≡ is_core q
 decl_is_core Signal d q = refl
 decl_is_core Number d q = refl
 
-decls_are_core : (ds : List CellDecl) (q : g.Program) → is_core (decls_phrase ds q) ≡ is_core q
+decls_are_core : (ds : List CellDecl) (q : g.ProgramPhrase) → is_core (decls_phrase ds q) ≡ is_core q
 decls_are_core [] q = refl
 decls_are_core (d ∷ ds) q = decl_is_core d.cell.kind d (decls_phrase ds q) ∙ decls_are_core ds q
 
@@ -108,7 +108,7 @@ one_spelled text p q ip iq sp sq =
     let lexemes : sp.lexemes ≡ sq.lexemes = unique form.Core text sp.lexemes sq.lexemes 0 sp.lexed sq.lexed in
     let phrase : sp.phrase ≡ sq.phrase = one_program sp.phrase sq.phrase (sym sp.spells.spelled ∙ ap (terms_of text) lexemes ∙ sq.spells.spelled) in
     let cells : p.cells ≡ q.cells = same_cells p.cells q.cells (sp.cells ∙ ap program_cells phrase ∙ sym sq.cells) in
-    let declared : p.declared ≡ q.declared = sp.declared ∙ ap (λ (x : g.Program). length (declared_cells x)) phrase ∙ sym sq.declared in
+    let declared : p.declared ≡ q.declared = sp.declared ∙ ap (λ (x : g.ProgramPhrase). length (declared_cells x)) phrase ∙ sym sq.declared in
     let nodes : p.nodes ≡ q.nodes = listed p ip ∙ same_tree (agent_at p.nodes 0) (agent_at q.nodes 0) (sp.tree ∙ ap program_tree phrase ∙ sym sq.tree) ∙ sym (listed q iq) in
     ap (λ (x : List CellDecl). record { cells = x; declared = p.declared; nodes = p.nodes }) cells
     ∙ ap (λ (x : ℕ). record { cells = q.cells; declared = x; nodes = p.nodes }) declared

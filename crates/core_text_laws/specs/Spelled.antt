@@ -4,7 +4,7 @@ use Rattle.program_lexemes.specs.declared.bytes.TextForm.TheVariants as form
 use Rattle.program_lexemes.specs.declared.lexer.Lexeme.{Lexeme}
 use Rattle.program_lexemes.specs.Lexemes.{AreLexemes}
 use Rattle.program_grammar.specs.declared.words.Language.TheVariants as language
-use Rattle.program_grammar.specs.Phrases.{Program}
+use Rattle.program_grammar.specs.Phrases.{ProgramPhrase}
 use Rattle.program_grammar.specs.Programs.{Spells}
 use Rattle.agent_core.specs.Agents.{agent_at}
 use Rattle.agent_core.specs.Programs.{CoreProgram}
@@ -19,7 +19,7 @@ pub record IsSpelled (text : List ℕ) (p : CoreProgram) : Type 0 where
   pub lexemes : List Lexeme
   pub lexed : AreLexemes form.Core text lexemes
   pub short : position (too_long text) lexemes ≡ None
-  pub phrase : Program
+  pub phrase : ProgramPhrase
   pub spells : Spells language.Core phrase (terms_of text lexemes)
   pub named : program_fault phrase ≡ None
   pub cells : map cell_view p.cells ≡ program_cells phrase

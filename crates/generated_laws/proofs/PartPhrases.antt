@@ -10,39 +10,39 @@ use Rattle.trace_text.specs.Generated.{signal_name, number_name}
 use Rattle.core_text_laws.proofs.CoreLimits.{none_both}
 use Rattle.generated_laws.specs.GeneratedParts.{Part, Follows, Defaults, Delays, Starts, Ends, Bounds}
 
-abbrev pub is_on : ℕ → g.Constraint
-is_on j = g.One (g.Asserts (signal_name j))
+abbrev pub is_on : ℕ → g.ConstraintPhrase
+is_on j = g.One (g.On (signal_name j))
 
-abbrev pub part_phrase : Part → g.Unit'
-part_phrase (Follows i j) = g.Ever (g.IfThen (is_on i) (g.Tell (is_on j)))
-part_phrase (Defaults i j) = g.Ever (g.IfElse (is_on i) (g.Tell (is_on j)))
-part_phrase (Delays i j) = g.Ever (g.IfThen (is_on i) (g.AtNext (g.Tell (is_on j))))
-part_phrase (Starts i j) = g.Whenever (is_on i) (g.Ever (g.Tell (is_on j)))
-part_phrase (Ends i j h) = g.Watch (g.Only (g.Ever (g.IfElse (is_on i) (g.Tell (is_on j))))) (is_on h)
-part_phrase (Bounds i n k) = g.Ever (g.IfThen (is_on i) (g.Tell (g.One (g.AtLeast (number_name n) (pos k)))))
+abbrev pub part_phrase : Part → g.UnitPhrase
+part_phrase (Follows i j) = g.Always (g.IfThen (is_on i) (g.Tell (is_on j)))
+part_phrase (Defaults i j) = g.Always (g.IfElse (is_on i) (g.Tell (is_on j)))
+part_phrase (Delays i j) = g.Always (g.IfThen (is_on i) (g.Next (g.Tell (is_on j))))
+part_phrase (Starts i j) = g.When (is_on i) (g.Always (g.Tell (is_on j)))
+part_phrase (Ends i j h) = g.Watching (g.Only (g.Always (g.IfElse (is_on i) (g.Tell (is_on j))))) (is_on h)
+part_phrase (Bounds i n k) = g.Always (g.IfThen (is_on i) (g.Tell (g.One (g.AtLeast (number_name n) (pos k)))))
 
-abbrev pub agent_phrase : List Part → g.Agent
-agent_phrase [] = g.Only g.Nothing
+abbrev pub agent_phrase : List Part → g.AgentPhrase
+agent_phrase [] = g.Only g.Skip
 agent_phrase (u ∷ []) = g.Only (part_phrase u)
 agent_phrase (u ∷ v ∷ vs) = g.Par (part_phrase u) (agent_phrase (v ∷ vs))
 
 -- a signal and then some more; a number and then some more
-abbrev pub signals_phrase : ℕ → List ℕ → g.Names
+abbrev pub signals_phrase : ℕ → List ℕ → g.NamesPhrase
 signals_phrase x [] = g.LastName (signal_name x)
 signals_phrase x (y ∷ ys) = g.MoreName (signal_name x) (signals_phrase y ys)
 
-abbrev pub numbers_phrase : ℕ → List ℕ → g.Items
+abbrev pub numbers_phrase : ℕ → List ℕ → g.ItemsPhrase
 numbers_phrase x [] = g.LastItem (number_name x) (pos 0) (pos 99)
 numbers_phrase x (y ∷ ys) = g.MoreItem (number_name x) (pos 0) (pos 99) (numbers_phrase y ys)
 
 -- the declarations, and then an agent of these parts
-abbrev pub signals : g.Names
+abbrev pub signals : g.NamesPhrase
 signals = signals_phrase 0 (range_with_len 1 31)
 
-abbrev pub numbers : g.Items
+abbrev pub numbers : g.ItemsPhrase
 numbers = numbers_phrase 0 (range_with_len 1 7)
 
-abbrev pub program_phrase : List Part → g.Program
+abbrev pub program_phrase : List Part → g.ProgramPhrase
 program_phrase us = g.Signals signals (g.Ints numbers (g.Runs (agent_phrase us)))
 
 -- LIMITS

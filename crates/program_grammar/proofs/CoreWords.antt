@@ -8,7 +8,8 @@ use Rattle.program_grammar.specs.declared.words.Word.TheVariants as class
 use Rattle.std.proofs.lemmas.List.Folds.{list_all-append}
 use Rattle.program_grammar.specs.declared.parts.Part.{Part}
 use Rattle.program_grammar.specs.declared.parts.Part.TheVariants.{Declarations, MoreNames, OneUnit, MoreUnits, OneToken, MoreTokens, Bound, Branch, DeclaredName, DeniedName, ClashingName, LocalName, LeastNumber, MostNumber, ExactNumber, TheIn, TheClose, EndTell, EndBody, EndLocal, DeclaredIntName, LocalIntName, DomainIn, LowNumber, TheRange, HighNumber, MoreItems, NewKind, TheDo, TheWatching, TheOn, EndWatch, EndTimed}
-use Rattle.program_grammar.specs.Phrases.{Token, Asserts, Denies, Clashes, AtLeast, AtMost, Exactly, Constraint, One, Both, Unit', Nothing, Tell, Braces, IfThen, IfElse, LocalSignal, LocalInt, Henceforth, AtNext, Ever, Whenever, Watch, Timed, Agent, Only, Par, Names, LastName, MoreName, Items, LastItem, MoreItem, Program, Runs, Signals, Ints}
+use Rattle.program_grammar.specs.Phrases.{TokenPhrase, AtLeast, AtMost, Exactly, ConstraintPhrase, One, Both, UnitPhrase, Tell, Braces, IfThen, IfElse, LocalSignal, LocalInt, AgentPhrase, Only, Par, NamesPhrase, LastName, MoreName, ItemsPhrase, LastItem, MoreItem, ProgramPhrase, Runs, Signals, Ints}
+use Rattle.program_grammar.specs.Phrases as phrase
 use Rattle.program_grammar.specs.Spelling.{token, constraint, unit, agent, names, items, program}
 use Rattle.program_grammar.specs.Table.{after}
 use Rattle.program_grammar.specs.Machine.{may_end, took, feed, run, start}
@@ -31,47 +32,47 @@ and_true : (a : Bool) → (a && true) ≡ a
 and_true true = refl
 and_true false = refl
 
-plain-token : (t : Token) (k : List Term) → plain (token t k) ≡ plain k
-plain-token (Asserts x) k = refl
-plain-token (Denies x) k = refl
-plain-token (Clashes x) k = refl
+plain-token : (t : TokenPhrase) (k : List Term) → plain (token t k) ≡ plain k
+plain-token (phrase.On x) k = refl
+plain-token (phrase.Off x) k = refl
+plain-token (phrase.Clash x) k = refl
 plain-token (AtLeast x n) k = refl
 plain-token (AtMost x n) k = refl
 plain-token (Exactly x n) k = refl
 
-plain-constraint : (c : Constraint) (k : List Term) → plain (constraint c k) ≡ plain k
+plain-constraint : (c : ConstraintPhrase) (k : List Term) → plain (constraint c k) ≡ plain k
 plain-constraint (One t) k = plain-token t k
 plain-constraint (Both t c) k = plain-token t (Ampersand ∷ constraint c k) ∙ plain-constraint c k
 
 mutual
-  plain-unit : (u : Unit') (k : List Term) → plain (unit u k) ≡ (is_core_unit u && plain k)
-  plain-unit Nothing k = refl
+  plain-unit : (u : UnitPhrase) (k : List Term) → plain (unit u k) ≡ (is_core_unit u && plain k)
+  plain-unit phrase.Skip k = refl
   plain-unit (Tell c) k = plain-constraint c k
   plain-unit (Braces a) k = plain-agent a (CloseBrace ∷ k)
   plain-unit (IfThen c u) k = plain-constraint c (Then ∷ unit u k) ∙ plain-unit u k
   plain-unit (IfElse c u) k = plain-constraint c (Else ∷ unit u k) ∙ plain-unit u k
   plain-unit (LocalSignal x u) k = plain-unit u k
   plain-unit (LocalInt x l h u) k = plain-unit u k
-  plain-unit (Henceforth u) k = plain-unit u k
-  plain-unit (AtNext u) k = plain-unit u k
-  plain-unit (Ever u) k = refl
-  plain-unit (Whenever c u) k = refl
-  plain-unit (Watch a c) k = refl
-  plain-unit (Timed a c) k = refl
+  plain-unit (phrase.Hence u) k = plain-unit u k
+  plain-unit (phrase.Next u) k = plain-unit u k
+  plain-unit (phrase.Always u) k = refl
+  plain-unit (phrase.When c u) k = refl
+  plain-unit (phrase.Watching a c) k = refl
+  plain-unit (phrase.TimeOn a c) k = refl
 
-  plain-agent : (a : Agent) (k : List Term) → plain (agent a k) ≡ (is_core_agent a && plain k)
+  plain-agent : (a : AgentPhrase) (k : List Term) → plain (agent a k) ≡ (is_core_agent a && plain k)
   plain-agent (Only u) k = plain-unit u k
   plain-agent (Par u a) k = plain-unit u (Bars ∷ agent a k) ∙ ap (λ b. is_core_unit u && b) (plain-agent a k) ∙ and_assoc (is_core_unit u) (is_core_agent a) (plain k)
 
-plain-names : (ns : Names) (k : List Term) → plain (names ns k) ≡ plain k
+plain-names : (ns : NamesPhrase) (k : List Term) → plain (names ns k) ≡ plain k
 plain-names (LastName x) k = refl
 plain-names (MoreName x ns) k = plain-names ns k
 
-plain-items : (is : Items) (k : List Term) → plain (items is k) ≡ plain k
+plain-items : (is : ItemsPhrase) (k : List Term) → plain (items is k) ≡ plain k
 plain-items (LastItem x l h) k = refl
 plain-items (MoreItem x l h is) k = plain-items is k
 
-plain-program : (p : Program) → plain (program p []) ≡ is_core p
+plain-program : (p : ProgramPhrase) → plain (program p []) ≡ is_core p
 plain-program (Runs a) = plain-agent a [] ∙ and_true (is_core_agent a)
 plain-program (Signals ns p) = plain-names ns (Semicolon ∷ program p []) ∙ plain-program p
 plain-program (Ints is p) = plain-items is (Semicolon ∷ program p []) ∙ plain-program p
@@ -81,12 +82,12 @@ all_permitted [] = refl
 all_permitted (w ∷ ws) = all_permitted ws
 
 -- A language has the words of its programs.
-pub allowed_permitted : (l : Language) (p : Program) → Allows l (is_core p) → list_all (permits l) (classes (program p [])) ≡ true
+pub allowed_permitted : (l : Language) (p : ProgramPhrase) → Allows l (is_core p) → list_all (permits l) (classes (program p [])) ≡ true
 allowed_permitted Whole p h = all_permitted (classes (program p []))
 allowed_permitted Core p h = plain-program p ∙ h
 
 -- A program that has the language's words is the language's.
-pub permitted_allowed : (l : Language) (p : Program) → list_all (permits l) (classes (program p [])) ≡ true → Allows l (is_core p)
+pub permitted_allowed : (l : Language) (p : ProgramPhrase) → list_all (permits l) (classes (program p [])) ≡ true → Allows l (is_core p)
 permitted_allowed Whole p h = tt
 permitted_allowed Core p h = sym (plain-program p) ∙ h
 

@@ -10,7 +10,7 @@ use Rattle.program_grammar.specs.declared.words.Language.{Language}
 use Rattle.program_grammar.specs.declared.words.Word.{Word}
 use Rattle.program_grammar.specs.declared.parts.Part.{Part}
 use Rattle.program_grammar.specs.Terms.{Term, class_of, classes}
-use Rattle.program_grammar.specs.Phrases.{Program}
+use Rattle.program_grammar.specs.Phrases.{ProgramPhrase}
 use Rattle.program_grammar.specs.Spelling.{program}
 use Rattle.program_grammar.specs.Programs.{Spells, IsProgram, BeginsProgram, IsFault}
 use Rattle.program_grammar.specs.Machine.{permits, run, run_in, ended, start, Ends, StopsAt}
@@ -26,10 +26,10 @@ permitted_both l ts more h k = ap (list_all (permits l)) (map-append class_of ts
 permitted_front : (l : Language) (ts more : List Term) → list_all (permits l) (classes (ts ++ more)) ≡ true → list_all (permits l) (classes ts) ≡ true
 permitted_front l ts more h = and_left (list_all (permits l) (classes ts)) (list_all (permits l) (classes more)) (sym (list_all-append (permits l) (classes ts) (classes more)) ∙ ap (list_all (permits l)) (sym (map-append class_of ts more)) ∙ h)
 
-spells : (l : Language) (p : Program) (ts : List Term) → list_all (permits l) (classes ts) ≡ true → ts ≡ program p [] → Spells l p ts
+spells : (l : Language) (p : ProgramPhrase) (ts : List Term) → list_all (permits l) (classes ts) ≡ true → ts ≡ program p [] → Spells l p ts
 spells l p ts h e = record { allowed = permitted_allowed l p (ap (λ q. list_all (permits l) (classes q)) (sym e) ∙ h); spelled = e }
 
-spelled_permitted : (l : Language) (p : Program) (ts : List Term) → Spells l p ts → list_all (permits l) (classes ts) ≡ true
+spelled_permitted : (l : Language) (p : ProgramPhrase) (ts : List Term) → Spells l p ts → list_all (permits l) (classes ts) ≡ true
 spelled_permitted l p ts s = ap (λ q. list_all (permits l) (classes q)) s.spelled ∙ allowed_permitted l p s.allowed
 
 -- What the machine goes through begins a program.

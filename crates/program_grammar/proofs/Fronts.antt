@@ -3,7 +3,8 @@ use Rattle.std.proofs.Common.{◌≡◌, ℕ, List, [], ◌∷◌, ◌++◌, Boo
 use Rattle.std.specs.Prelude.{◌&&◌, ℤ}
 use Rattle.std.proofs.lemmas.List.{append-nil}
 use Rattle.program_grammar.specs.Terms.{Term, Name, Number, Signal, Int, In, Skip, If, Then, Else, New, Hence, Next, Always, When, Do, Watching, Time, On, Semicolon, Comma, Range, Ampersand, Bars, OpenBrace, CloseBrace, Bang, Hash, GreaterEqual, LessEqual, Equal}
-use Rattle.program_grammar.specs.Phrases.{Token, Asserts, Denies, Clashes, AtLeast, AtMost, Exactly, Constraint, One, Both, Unit', Nothing, Tell, Braces, IfThen, IfElse, LocalSignal, LocalInt, Henceforth, AtNext, Ever, Whenever, Watch, Timed, Agent, Only, Par, Names, LastName, MoreName, Items, LastItem, MoreItem, Program, Runs, Signals, Ints}
+use Rattle.program_grammar.specs.Phrases.{TokenPhrase, AtLeast, AtMost, Exactly, ConstraintPhrase, One, Both, UnitPhrase, Tell, Braces, IfThen, IfElse, LocalSignal, LocalInt, AgentPhrase, Only, Par, NamesPhrase, LastName, MoreName, ItemsPhrase, LastItem, MoreItem, ProgramPhrase, Runs, Signals, Ints}
+use Rattle.program_grammar.specs.Phrases as phrase
 use Rattle.program_grammar.specs.Spelling.{token, constraint, unit, agent, names, items, program}
 use Rattle.program_grammar.specs.Alternatives.{Symbol, AName, ANumber, The, AToken, AConstraint, AUnit, AnAgent, SomeNames, AnItem, SomeItems, AProgram, Fits, Alternative, asserts, denies, clashes, at_least, at_most, exactly, one, both, nothing, tell, braces, if_then, if_else, new_signal, new_int, hence, next, always, when_do, do_watching, time_on, only, par, last_name, more_names, item, last_item, more_items, runs, signals, ints, Is, AreAll, none, some, by, Begins, BeginAll, empty, within, whole, part, past}
 use Rattle.program_grammar.specs.Alternatives.Is.{itself as is_itself}
@@ -81,26 +82,26 @@ front_four l s t u v f g h i p q r o = front_some l s (t ∷ u ∷ v ∷ []) f (
 front_five : (l : Language) (s t u v w : Symbol) (f g h i j : List Term → List Term) → Front l s f → Front l t g → Front l u h → Front l v i → Front l w j → FrontAll l (s ∷ t ∷ u ∷ v ∷ w ∷ []) (λ k. f (g (h (i (j k)))))
 front_five l s t u v w f g h i j p q r o n = front_some l s (t ∷ u ∷ v ∷ w ∷ []) f (λ k. g (h (i (j k)))) p (front_four l t u v w g h i j q r o n)
 
-token_front : (l : Language) (t : Token) → Front l AToken (token t)
-token_front l (Asserts x) = front_by l _ _ _ asserts (front_one l _ _ (a_name l x))
-token_front l (Denies x) = front_by l _ _ _ denies (front_two l _ _ _ _ (the l Bang) (a_name l x))
-token_front l (Clashes x) = front_by l _ _ _ clashes (front_two l _ _ _ _ (the l Hash) (a_name l x))
+token_front : (l : Language) (t : TokenPhrase) → Front l AToken (token t)
+token_front l (phrase.On x) = front_by l _ _ _ asserts (front_one l _ _ (a_name l x))
+token_front l (phrase.Off x) = front_by l _ _ _ denies (front_two l _ _ _ _ (the l Bang) (a_name l x))
+token_front l (phrase.Clash x) = front_by l _ _ _ clashes (front_two l _ _ _ _ (the l Hash) (a_name l x))
 token_front l (AtLeast x n) = front_by l _ _ _ at_least (front_three l _ _ _ _ _ _ (a_name l x) (the l GreaterEqual) (a_number l n))
 token_front l (AtMost x n) = front_by l _ _ _ at_most (front_three l _ _ _ _ _ _ (a_name l x) (the l LessEqual) (a_number l n))
 token_front l (Exactly x n) = front_by l _ _ _ exactly (front_three l _ _ _ _ _ _ (a_name l x) (the l Equal) (a_number l n))
 
-constraint_front : (l : Language) (c : Constraint) → Front l AConstraint (constraint c)
+constraint_front : (l : Language) (c : ConstraintPhrase) → Front l AConstraint (constraint c)
 constraint_front l (One t) = front_by l _ _ _ one (front_one l _ _ (token_front l t))
 constraint_front l (Both t c) = front_by l _ _ _ both (front_three l _ _ _ _ _ _ (token_front l t) (the l Ampersand) (constraint_front l c))
 
 item_front : (l : Language) (x : List ℕ) (low high : ℤ) → Front l AnItem (λ k. Name x ∷ In ∷ Number low ∷ Range ∷ Number high ∷ k)
 item_front l x low high = front_by l _ _ _ item (front_five l _ _ _ _ _ _ _ _ _ _ (a_name l x) (the l In) (a_number l low) (the l Range) (a_number l high))
 
-names_front : (l : Language) (ns : Names) → Front l SomeNames (names ns)
+names_front : (l : Language) (ns : NamesPhrase) → Front l SomeNames (names ns)
 names_front l (LastName x) = front_by l _ _ _ last_name (front_one l _ _ (a_name l x))
 names_front l (MoreName x ns) = front_by l _ _ _ more_names (front_three l _ _ _ _ _ _ (a_name l x) (the l Comma) (names_front l ns))
 
-items_front : (l : Language) (is : Items) → Front l SomeItems (items is)
+items_front : (l : Language) (is : ItemsPhrase) → Front l SomeItems (items is)
 items_front l (LastItem x low high) = front_by l _ _ _ last_item (front_one l _ _ (item_front l x low high))
 items_front l (MoreItem x low high is) = front_by l _ _ _ more_items (front_three l _ _ _ _ _ _ (item_front l x low high) (the l Comma) (items_front l is))
 
@@ -119,26 +120,26 @@ derived Whole s f h p = p
 derived Core s f h p = cc
 
 mutual
-  unit_front : (l : Language) (u : Unit') → Allows l (is_core_unit u) → Front l AUnit (unit u)
-  unit_front l Nothing h = front_by l _ _ _ nothing (front_one l _ _ (the l Skip))
+  unit_front : (l : Language) (u : UnitPhrase) → Allows l (is_core_unit u) → Front l AUnit (unit u)
+  unit_front l phrase.Skip h = front_by l _ _ _ nothing (front_one l _ _ (the l Skip))
   unit_front l (Tell c) h = front_by l _ _ _ tell (front_one l _ _ (constraint_front l c))
   unit_front l (Braces a) h = front_by l _ _ _ braces (front_three l _ _ _ _ _ _ (the l OpenBrace) (agent_front l a h) (the l CloseBrace))
   unit_front l (IfThen c u) h = front_by l _ _ _ if_then (front_four l _ _ _ _ _ _ _ _ (the l If) (constraint_front l c) (the l Then) (unit_front l u h))
   unit_front l (IfElse c u) h = front_by l _ _ _ if_else (front_four l _ _ _ _ _ _ _ _ (the l If) (constraint_front l c) (the l Else) (unit_front l u h))
   unit_front l (LocalSignal x u) h = front_by l _ _ _ new_signal (front_five l _ _ _ _ _ _ _ _ _ _ (the l New) (the l Signal) (a_name l x) (the l In) (unit_front l u h))
   unit_front l (LocalInt x low high u) h = front_by l _ _ _ new_int (front_five l _ _ _ _ _ _ _ _ _ _ (the l New) (the l Int) (item_front l x low high) (the l In) (unit_front l u h))
-  unit_front l (Henceforth u) h = front_by l _ _ _ hence (front_two l _ _ _ _ (the l Hence) (unit_front l u h))
-  unit_front l (AtNext u) h = front_by l _ _ _ next (front_two l _ _ _ _ (the l Next) (unit_front l u h))
-  unit_front l (Ever u) h = derived l _ _ h (front_by Whole _ _ _ always (front_two Whole _ _ _ _ (the Whole Always) (unit_front Whole u tt)))
-  unit_front l (Whenever c u) h = derived l _ _ h (front_by Whole _ _ _ when_do (front_four Whole _ _ _ _ _ _ _ _ (the Whole When) (constraint_front Whole c) (the Whole Do) (unit_front Whole u tt)))
-  unit_front l (Watch a c) h = derived l _ _ h (front_by Whole _ _ _ do_watching (front_four Whole _ _ _ _ _ _ _ _ (the Whole Do) (agent_front Whole a tt) (the Whole Watching) (constraint_front Whole c)))
-  unit_front l (Timed a c) h = derived l _ _ h (front_by Whole _ _ _ time_on (front_four Whole _ _ _ _ _ _ _ _ (the Whole Time) (agent_front Whole a tt) (the Whole On) (constraint_front Whole c)))
+  unit_front l (phrase.Hence u) h = front_by l _ _ _ hence (front_two l _ _ _ _ (the l Hence) (unit_front l u h))
+  unit_front l (phrase.Next u) h = front_by l _ _ _ next (front_two l _ _ _ _ (the l Next) (unit_front l u h))
+  unit_front l (phrase.Always u) h = derived l _ _ h (front_by Whole _ _ _ always (front_two Whole _ _ _ _ (the Whole Always) (unit_front Whole u tt)))
+  unit_front l (phrase.When c u) h = derived l _ _ h (front_by Whole _ _ _ when_do (front_four Whole _ _ _ _ _ _ _ _ (the Whole When) (constraint_front Whole c) (the Whole Do) (unit_front Whole u tt)))
+  unit_front l (phrase.Watching a c) h = derived l _ _ h (front_by Whole _ _ _ do_watching (front_four Whole _ _ _ _ _ _ _ _ (the Whole Do) (agent_front Whole a tt) (the Whole Watching) (constraint_front Whole c)))
+  unit_front l (phrase.TimeOn a c) h = derived l _ _ h (front_by Whole _ _ _ time_on (front_four Whole _ _ _ _ _ _ _ _ (the Whole Time) (agent_front Whole a tt) (the Whole On) (constraint_front Whole c)))
 
-  agent_front : (l : Language) (a : Agent) → Allows l (is_core_agent a) → Front l AnAgent (agent a)
+  agent_front : (l : Language) (a : AgentPhrase) → Allows l (is_core_agent a) → Front l AnAgent (agent a)
   agent_front l (Only u) h = front_by l _ _ _ only (front_one l _ _ (unit_front l u h))
   agent_front l (Par u a) h = front_by l _ _ _ par (front_three l _ _ _ _ _ _ (unit_front l u (allows_left l (is_core_unit u) (is_core_agent a) h)) (the l Bars) (agent_front l a (allows_right l (is_core_unit u) (is_core_agent a) h)))
 
-program_front : (l : Language) (p : Program) → Allows l (is_core p) → Front l AProgram (program p)
+program_front : (l : Language) (p : ProgramPhrase) → Allows l (is_core p) → Front l AProgram (program p)
 program_front l (Runs a) h = front_by l _ _ _ runs (front_one l _ _ (agent_front l a h))
 program_front l (Signals ns p) h = front_by l _ _ _ signals (front_four l _ _ _ _ _ _ _ _ (the l Signal) (names_front l ns) (the l Semicolon) (program_front l p h))
 program_front l (Ints is p) h = front_by l _ _ _ ints (front_four l _ _ _ _ _ _ _ _ (the l Int) (items_front l is) (the l Semicolon) (program_front l p h))

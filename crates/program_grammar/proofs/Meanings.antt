@@ -2,7 +2,8 @@
 use Rattle.std.proofs.Common.{◌≡◌, ℕ, List, [], ◌∷◌, ◌++◌, refl, ap}
 use Rattle.std.specs.Prelude.{ℤ}
 use Rattle.program_grammar.specs.Terms.{Term, Name, Number, In, Range}
-use Rattle.program_grammar.specs.Phrases.{Asserts, Denies, Clashes, AtLeast, AtMost, Exactly, One, Both, Nothing, Tell, Braces, IfThen, IfElse, LocalSignal, LocalInt, Henceforth, AtNext, Ever, Whenever, Watch, Timed, Only, Par, LastName, MoreName, LastItem, MoreItem, Runs, Signals, Ints}
+use Rattle.program_grammar.specs.Phrases.{AtLeast, AtMost, Exactly, One, Both, Tell, Braces, IfThen, IfElse, LocalSignal, LocalInt, Only, Par, LastName, MoreName, LastItem, MoreItem, Runs, Signals, Ints}
+use Rattle.program_grammar.specs.Phrases as phrases
 use Rattle.program_grammar.specs.Spelling.{token, constraint, unit, agent, names, items, program}
 use Rattle.program_grammar.specs.Alternatives.{Symbol, AName, ANumber, The, AToken, AConstraint, AUnit, AnAgent, SomeNames, AnItem, SomeItems, AProgram, Fits, Alternative, asserts, denies, clashes, at_least, at_most, exactly, one, both, nothing, tell, braces, if_then, if_else, new_signal, new_int, hence, next, always, when_do, do_watching, time_on, only, par, last_name, more_names, item, last_item, more_items, runs, signals, ints, Is, AreAll, none, some, by}
 use Rattle.program_grammar.specs.Alternatives.Is.{itself as is_itself}
@@ -44,27 +45,27 @@ fits_means SomeItems t e = absurd e
 fits_means AProgram t e = absurd e
 
 alternative_means : {l : Language} {s : Symbol} {parts : List Symbol} (ts : List Term) → Alternative l s parts → MeansAll parts ts → Means s ts
-alternative_means ts asserts (u0, v0, (x, m0), n, e0) = (Asserts x, λ k. cc (e0 k, m0 (v0 ++ k), n k))
-alternative_means ts denies (u0, v0, m0, (u1, v1, (x, m1), n, e1), e0) = (Denies x, λ k. cc (e0 k, m0 (v0 ++ k), e1 k, m1 (v1 ++ k), n k))
-alternative_means ts clashes (u0, v0, m0, (u1, v1, (x, m1), n, e1), e0) = (Clashes x, λ k. cc (e0 k, m0 (v0 ++ k), e1 k, m1 (v1 ++ k), n k))
+alternative_means ts asserts (u0, v0, (x, m0), n, e0) = (phrases.On x, λ k. cc (e0 k, m0 (v0 ++ k), n k))
+alternative_means ts denies (u0, v0, m0, (u1, v1, (x, m1), n, e1), e0) = (phrases.Off x, λ k. cc (e0 k, m0 (v0 ++ k), e1 k, m1 (v1 ++ k), n k))
+alternative_means ts clashes (u0, v0, m0, (u1, v1, (x, m1), n, e1), e0) = (phrases.Clash x, λ k. cc (e0 k, m0 (v0 ++ k), e1 k, m1 (v1 ++ k), n k))
 alternative_means ts at_least (u0, v0, (x, m0), (u1, v1, m1, (u2, v2, (y, m2), n, e2), e1), e0) = (AtLeast x y, λ k. cc (e0 k, m0 (v0 ++ k), e1 k, m1 (v1 ++ k), e2 k, m2 (v2 ++ k), n k))
 alternative_means ts at_most (u0, v0, (x, m0), (u1, v1, m1, (u2, v2, (y, m2), n, e2), e1), e0) = (AtMost x y, λ k. cc (e0 k, m0 (v0 ++ k), e1 k, m1 (v1 ++ k), e2 k, m2 (v2 ++ k), n k))
 alternative_means ts exactly (u0, v0, (x, m0), (u1, v1, m1, (u2, v2, (y, m2), n, e2), e1), e0) = (Exactly x y, λ k. cc (e0 k, m0 (v0 ++ k), e1 k, m1 (v1 ++ k), e2 k, m2 (v2 ++ k), n k))
 alternative_means ts one (u0, v0, (t, m0), n, e0) = (One t, λ k. cc (e0 k, m0 (v0 ++ k), n k))
 alternative_means ts both (u0, v0, (t, m0), (u1, v1, m1, (u2, v2, (c, m2), n, e2), e1), e0) = (Both t c, λ k. cc (e0 k, m0 (v0 ++ k), e1 k, m1 (v1 ++ k), e2 k, m2 (v2 ++ k), n k))
-alternative_means ts nothing (u0, v0, m0, n, e0) = (Nothing, λ k. cc (e0 k, m0 (v0 ++ k), n k))
+alternative_means ts nothing (u0, v0, m0, n, e0) = (phrases.Skip, λ k. cc (e0 k, m0 (v0 ++ k), n k))
 alternative_means ts tell (u0, v0, (c, m0), n, e0) = (Tell c, λ k. cc (e0 k, m0 (v0 ++ k), n k))
 alternative_means ts braces (u0, v0, m0, (u1, v1, (a, m1), (u2, v2, m2, n, e2), e1), e0) = (Braces a, λ k. cc (e0 k, m0 (v0 ++ k), e1 k, m1 (v1 ++ k), e2 k, m2 (v2 ++ k), n k))
 alternative_means ts if_then (u0, v0, m0, (u1, v1, (c, m1), (u2, v2, m2, (u3, v3, (b, m3), n, e3), e2), e1), e0) = (IfThen c b, λ k. cc (e0 k, m0 (v0 ++ k), e1 k, m1 (v1 ++ k), e2 k, m2 (v2 ++ k), e3 k, m3 (v3 ++ k), n k))
 alternative_means ts if_else (u0, v0, m0, (u1, v1, (c, m1), (u2, v2, m2, (u3, v3, (b, m3), n, e3), e2), e1), e0) = (IfElse c b, λ k. cc (e0 k, m0 (v0 ++ k), e1 k, m1 (v1 ++ k), e2 k, m2 (v2 ++ k), e3 k, m3 (v3 ++ k), n k))
 alternative_means ts new_signal (u0, v0, m0, (u1, v1, m1, (u2, v2, (x, m2), (u3, v3, m3, (u4, v4, (b, m4), n, e4), e3), e2), e1), e0) = (LocalSignal x b, λ k. cc (e0 k, m0 (v0 ++ k), e1 k, m1 (v1 ++ k), e2 k, m2 (v2 ++ k), e3 k, m3 (v3 ++ k), e4 k, m4 (v4 ++ k), n k))
 alternative_means ts new_int (u0, v0, m0, (u1, v1, m1, (u2, v2, (x, y, z, m2), (u3, v3, m3, (u4, v4, (b, m4), n, e4), e3), e2), e1), e0) = (LocalInt x y z b, λ k. cc (e0 k, m0 (v0 ++ k), e1 k, m1 (v1 ++ k), e2 k, m2 (v2 ++ k), e3 k, m3 (v3 ++ k), e4 k, m4 (v4 ++ k), n k))
-alternative_means ts hence (u0, v0, m0, (u1, v1, (b, m1), n, e1), e0) = (Henceforth b, λ k. cc (e0 k, m0 (v0 ++ k), e1 k, m1 (v1 ++ k), n k))
-alternative_means ts next (u0, v0, m0, (u1, v1, (b, m1), n, e1), e0) = (AtNext b, λ k. cc (e0 k, m0 (v0 ++ k), e1 k, m1 (v1 ++ k), n k))
-alternative_means ts always (u0, v0, m0, (u1, v1, (b, m1), n, e1), e0) = (Ever b, λ k. cc (e0 k, m0 (v0 ++ k), e1 k, m1 (v1 ++ k), n k))
-alternative_means ts when_do (u0, v0, m0, (u1, v1, (c, m1), (u2, v2, m2, (u3, v3, (b, m3), n, e3), e2), e1), e0) = (Whenever c b, λ k. cc (e0 k, m0 (v0 ++ k), e1 k, m1 (v1 ++ k), e2 k, m2 (v2 ++ k), e3 k, m3 (v3 ++ k), n k))
-alternative_means ts do_watching (u0, v0, m0, (u1, v1, (a, m1), (u2, v2, m2, (u3, v3, (c, m3), n, e3), e2), e1), e0) = (Watch a c, λ k. cc (e0 k, m0 (v0 ++ k), e1 k, m1 (v1 ++ k), e2 k, m2 (v2 ++ k), e3 k, m3 (v3 ++ k), n k))
-alternative_means ts time_on (u0, v0, m0, (u1, v1, (a, m1), (u2, v2, m2, (u3, v3, (c, m3), n, e3), e2), e1), e0) = (Timed a c, λ k. cc (e0 k, m0 (v0 ++ k), e1 k, m1 (v1 ++ k), e2 k, m2 (v2 ++ k), e3 k, m3 (v3 ++ k), n k))
+alternative_means ts hence (u0, v0, m0, (u1, v1, (b, m1), n, e1), e0) = (phrases.Hence b, λ k. cc (e0 k, m0 (v0 ++ k), e1 k, m1 (v1 ++ k), n k))
+alternative_means ts next (u0, v0, m0, (u1, v1, (b, m1), n, e1), e0) = (phrases.Next b, λ k. cc (e0 k, m0 (v0 ++ k), e1 k, m1 (v1 ++ k), n k))
+alternative_means ts always (u0, v0, m0, (u1, v1, (b, m1), n, e1), e0) = (phrases.Always b, λ k. cc (e0 k, m0 (v0 ++ k), e1 k, m1 (v1 ++ k), n k))
+alternative_means ts when_do (u0, v0, m0, (u1, v1, (c, m1), (u2, v2, m2, (u3, v3, (b, m3), n, e3), e2), e1), e0) = (phrases.When c b, λ k. cc (e0 k, m0 (v0 ++ k), e1 k, m1 (v1 ++ k), e2 k, m2 (v2 ++ k), e3 k, m3 (v3 ++ k), n k))
+alternative_means ts do_watching (u0, v0, m0, (u1, v1, (a, m1), (u2, v2, m2, (u3, v3, (c, m3), n, e3), e2), e1), e0) = (phrases.Watching a c, λ k. cc (e0 k, m0 (v0 ++ k), e1 k, m1 (v1 ++ k), e2 k, m2 (v2 ++ k), e3 k, m3 (v3 ++ k), n k))
+alternative_means ts time_on (u0, v0, m0, (u1, v1, (a, m1), (u2, v2, m2, (u3, v3, (c, m3), n, e3), e2), e1), e0) = (phrases.TimeOn a c, λ k. cc (e0 k, m0 (v0 ++ k), e1 k, m1 (v1 ++ k), e2 k, m2 (v2 ++ k), e3 k, m3 (v3 ++ k), n k))
 alternative_means ts only (u0, v0, (b, m0), n, e0) = (Only b, λ k. cc (e0 k, m0 (v0 ++ k), n k))
 alternative_means ts par (u0, v0, (b, m0), (u1, v1, m1, (u2, v2, (a, m2), n, e2), e1), e0) = (Par b a, λ k. cc (e0 k, m0 (v0 ++ k), e1 k, m1 (v1 ++ k), e2 k, m2 (v2 ++ k), n k))
 alternative_means ts last_name (u0, v0, (x, m0), n, e0) = (LastName x, λ k. cc (e0 k, m0 (v0 ++ k), n k))

@@ -3,54 +3,55 @@ use Rattle.std.proofs.Common.{◌≡◌, suc, List, [], ◌∷◌, ◌++◌, get
 use Rattle.std.specs.Prelude.{map}
 use Rattle.std.proofs.lemmas.List.{length-append}
 use Rattle.program_grammar.specs.Terms.{Term, Name, Number, Signal, Int, In, Skip, If, Then, Else, New, Hence, Next, Always, When, Do, Watching, Time, On, Semicolon, Comma, Range, Ampersand, Bars, OpenBrace, CloseBrace}
-use Rattle.program_grammar.specs.Phrases.{Token, Asserts, Denies, Clashes, AtLeast, AtMost, Exactly, Constraint, One, Both, Unit', Nothing, Tell, Braces, IfThen, IfElse, LocalSignal, LocalInt, Henceforth, AtNext, Ever, Whenever, Watch, Timed, Agent, Only, Par, Names, LastName, MoreName, Items, LastItem, MoreItem, Program, Runs, Signals, Ints}
+use Rattle.program_grammar.specs.Phrases.{TokenPhrase, AtLeast, AtMost, Exactly, ConstraintPhrase, One, Both, UnitPhrase, Tell, Braces, IfThen, IfElse, LocalSignal, LocalInt, AgentPhrase, Only, Par, NamesPhrase, LastName, MoreName, ItemsPhrase, LastItem, MoreItem, ProgramPhrase, Runs, Signals, Ints}
+use Rattle.program_grammar.specs.Phrases as phrase
 use Rattle.program_grammar.specs.declared.parts.Part.{Part}
 use Rattle.program_grammar.specs.declared.parts.Part.TheVariants.{OneUnit, MoreUnits, OneToken, MoreTokens, Branch, TheClose, EndTell, EndBody, EndLocal, TheDo, TheWatching, TheOn, EndWatch, EndTimed}
 use Rattle.program_grammar.specs.Spelling.{token, constraint, unit, agent, names, items, program}
 use Rattle.program_grammar.specs.Events.{Event, Takes, Leaves, token_events, constraint_events, unit_events, agent_events, names_events, items_events, program_events, numbered, taken, event_at}
 
-taken-token : (p : Part) (t : Token) (rest : List Event) → taken (token_events p t rest) ≡ token t (taken rest)
-taken-token p (Asserts x) rest = refl
-taken-token p (Denies x) rest = refl
-taken-token p (Clashes x) rest = refl
+taken-token : (p : Part) (t : TokenPhrase) (rest : List Event) → taken (token_events p t rest) ≡ token t (taken rest)
+taken-token p (phrase.On x) rest = refl
+taken-token p (phrase.Off x) rest = refl
+taken-token p (phrase.Clash x) rest = refl
 taken-token p (AtLeast x n) rest = refl
 taken-token p (AtMost x n) rest = refl
 taken-token p (Exactly x n) rest = refl
 
-taken-constraint : (p : Part) (c : Constraint) (rest : List Event) → taken (constraint_events p c rest) ≡ constraint c (taken rest)
+taken-constraint : (p : Part) (c : ConstraintPhrase) (rest : List Event) → taken (constraint_events p c rest) ≡ constraint c (taken rest)
 taken-constraint p (One t) rest = taken-token p t (Leaves MoreTokens ∷ rest)
 taken-constraint p (Both t c) rest = taken-token p t (Takes MoreTokens Ampersand ∷ constraint_events OneToken c rest) ∙ ap (λ l. token t (Ampersand ∷ l)) (taken-constraint OneToken c rest)
 
 mutual
-  taken-unit : (u : Unit') (rest : List Event) → taken (unit_events u rest) ≡ unit u (taken rest)
-  taken-unit Nothing rest = refl
+  taken-unit : (u : UnitPhrase) (rest : List Event) → taken (unit_events u rest) ≡ unit u (taken rest)
+  taken-unit phrase.Skip rest = refl
   taken-unit (Tell c) rest = taken-constraint OneUnit c (Leaves EndTell ∷ rest)
   taken-unit (Braces a) rest = ap (λ l. OpenBrace ∷ l) (taken-agent a (Takes TheClose CloseBrace ∷ rest))
   taken-unit (IfThen c u) rest = ap (λ l. If ∷ l) (taken-constraint OneToken c (Takes Branch Then ∷ unit_events u (Leaves EndBody ∷ rest)) ∙ ap (λ l. constraint c (Then ∷ l)) (taken-unit u (Leaves EndBody ∷ rest)))
   taken-unit (IfElse c u) rest = ap (λ l. If ∷ l) (taken-constraint OneToken c (Takes Branch Else ∷ unit_events u (Leaves EndBody ∷ rest)) ∙ ap (λ l. constraint c (Else ∷ l)) (taken-unit u (Leaves EndBody ∷ rest)))
   taken-unit (LocalSignal x u) rest = ap (λ l. New ∷ Signal ∷ Name x ∷ In ∷ l) (taken-unit u (Leaves EndLocal ∷ rest))
   taken-unit (LocalInt x l h u) rest = ap (λ q. New ∷ Int ∷ Name x ∷ In ∷ Number l ∷ Range ∷ Number h ∷ In ∷ q) (taken-unit u (Leaves EndLocal ∷ rest))
-  taken-unit (Henceforth u) rest = ap (λ l. Hence ∷ l) (taken-unit u (Leaves EndBody ∷ rest))
-  taken-unit (AtNext u) rest = ap (λ l. Next ∷ l) (taken-unit u (Leaves EndBody ∷ rest))
-  taken-unit (Ever u) rest = ap (λ l. Always ∷ l) (taken-unit u (Leaves EndBody ∷ rest))
-  taken-unit (Whenever c u) rest = ap (λ l. When ∷ l) (taken-constraint OneToken c (Takes TheDo Do ∷ unit_events u (Leaves EndBody ∷ rest)) ∙ ap (λ l. constraint c (Do ∷ l)) (taken-unit u (Leaves EndBody ∷ rest)))
-  taken-unit (Watch a c) rest = ap (λ l. Do ∷ l) (taken-agent a (Takes TheWatching Watching ∷ constraint_events OneToken c (Leaves EndWatch ∷ rest)) ∙ ap (λ l. agent a (Watching ∷ l)) (taken-constraint OneToken c (Leaves EndWatch ∷ rest)))
-  taken-unit (Timed a c) rest = ap (λ l. Time ∷ l) (taken-agent a (Takes TheOn On ∷ constraint_events OneToken c (Leaves EndTimed ∷ rest)) ∙ ap (λ l. agent a (On ∷ l)) (taken-constraint OneToken c (Leaves EndTimed ∷ rest)))
+  taken-unit (phrase.Hence u) rest = ap (λ l. Hence ∷ l) (taken-unit u (Leaves EndBody ∷ rest))
+  taken-unit (phrase.Next u) rest = ap (λ l. Next ∷ l) (taken-unit u (Leaves EndBody ∷ rest))
+  taken-unit (phrase.Always u) rest = ap (λ l. Always ∷ l) (taken-unit u (Leaves EndBody ∷ rest))
+  taken-unit (phrase.When c u) rest = ap (λ l. When ∷ l) (taken-constraint OneToken c (Takes TheDo Do ∷ unit_events u (Leaves EndBody ∷ rest)) ∙ ap (λ l. constraint c (Do ∷ l)) (taken-unit u (Leaves EndBody ∷ rest)))
+  taken-unit (phrase.Watching a c) rest = ap (λ l. Do ∷ l) (taken-agent a (Takes TheWatching Watching ∷ constraint_events OneToken c (Leaves EndWatch ∷ rest)) ∙ ap (λ l. agent a (Watching ∷ l)) (taken-constraint OneToken c (Leaves EndWatch ∷ rest)))
+  taken-unit (phrase.TimeOn a c) rest = ap (λ l. Time ∷ l) (taken-agent a (Takes TheOn On ∷ constraint_events OneToken c (Leaves EndTimed ∷ rest)) ∙ ap (λ l. agent a (On ∷ l)) (taken-constraint OneToken c (Leaves EndTimed ∷ rest)))
 
-  taken-agent : (a : Agent) (rest : List Event) → taken (agent_events a rest) ≡ agent a (taken rest)
+  taken-agent : (a : AgentPhrase) (rest : List Event) → taken (agent_events a rest) ≡ agent a (taken rest)
   taken-agent (Only u) rest = taken-unit u (Leaves MoreUnits ∷ rest)
   taken-agent (Par u a) rest = taken-unit u (Takes MoreUnits Bars ∷ agent_events a rest) ∙ ap (λ l. unit u (Bars ∷ l)) (taken-agent a rest)
 
-taken-names : (ns : Names) (rest : List Event) → taken (names_events ns rest) ≡ names ns (Semicolon ∷ taken rest)
+taken-names : (ns : NamesPhrase) (rest : List Event) → taken (names_events ns rest) ≡ names ns (Semicolon ∷ taken rest)
 taken-names (LastName x) rest = refl
 taken-names (MoreName x ns) rest = ap (λ l. Name x ∷ Comma ∷ l) (taken-names ns rest)
 
-taken-items : (is : Items) (rest : List Event) → taken (items_events is rest) ≡ items is (Semicolon ∷ taken rest)
+taken-items : (is : ItemsPhrase) (rest : List Event) → taken (items_events is rest) ≡ items is (Semicolon ∷ taken rest)
 taken-items (LastItem x l h) rest = refl
 taken-items (MoreItem x l h is) rest = ap (λ q. Name x ∷ In ∷ Number l ∷ Range ∷ Number h ∷ Comma ∷ q) (taken-items is rest)
 
 -- The events of a program take its terms.
-pub taken-program : (p : Program) → taken (program_events p) ≡ program p []
+pub taken-program : (p : ProgramPhrase) → taken (program_events p) ≡ program p []
 taken-program (Runs a) = taken-agent a []
 taken-program (Signals ns p) = ap (λ l. Signal ∷ l) (taken-names ns (program_events p) ∙ ap (λ l. names ns (Semicolon ∷ l)) (taken-program p))
 taken-program (Ints is p) = ap (λ l. Int ∷ l) (taken-items is (program_events p) ∙ ap (λ l. items is (Semicolon ∷ l)) (taken-program p))
@@ -71,5 +72,5 @@ events_at-numbered (Takes p t ∷ es) front =
     ∙ ap (λ l. Takes p t ∷ l) (events_at-numbered es (front ++ t ∷ []))
 
 -- The steps of a program, with its terms put back, are its events.
-pub events_at-program : (p : Program) → map (event_at (program p [])) (numbered 0 (program_events p)) ≡ program_events p
+pub events_at-program : (p : ProgramPhrase) → map (event_at (program p [])) (numbered 0 (program_events p)) ≡ program_events p
 events_at-program p = ap (λ l. map (event_at l) (numbered 0 (program_events p))) (sym (taken-program p)) ∙ events_at-numbered (program_events p) []

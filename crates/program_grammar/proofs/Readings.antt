@@ -4,7 +4,7 @@ use Rattle.program_grammar.specs.declared.words.Language.{Language}
 use Rattle.program_grammar.specs.declared.words.Word.{Word}
 use Rattle.program_grammar.specs.declared.machine.Step.{Step}
 use Rattle.program_grammar.specs.Terms.{Term, classes}
-use Rattle.program_grammar.specs.Phrases.{Program}
+use Rattle.program_grammar.specs.Phrases.{ProgramPhrase}
 use Rattle.program_grammar.specs.Programs.{Spells, IsFault}
 use Rattle.program_grammar.specs.Reading.{AreSteps, IsReading}
 use Rattle.program_grammar.specs.Machine.{start, trace, Ends, StopsAt}
@@ -12,7 +12,7 @@ use Rattle.program_grammar.proofs.Traces.{program_steps}
 use Rattle.program_grammar.proofs.Faults.{ends_program, stops_fault}
 
 -- the steps of a program are the steps that the machine takes
-pub spelled_steps : (l : Language) (ts : List Term) (ws : List Word) (p : Program) (steps : List Step) → classes ts ≡ ws → Spells l p ts → steps ≡ trace start 0 ws → AreSteps p steps
+pub spelled_steps : (l : Language) (ts : List Term) (ws : List Word) (p : ProgramPhrase) (steps : List Step) → classes ts ≡ ws → Spells l p ts → steps ≡ trace start 0 ws → AreSteps p steps
 spelled_steps l ts ws p steps e s taken = taken ∙ ap (trace start 0) (sym e) ∙ ap (λ q. trace start 0 (classes q)) s.spelled ∙ program_steps p
 
 -- where the machine goes through and may end, its steps are those of a program

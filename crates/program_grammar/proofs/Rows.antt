@@ -4,20 +4,21 @@ use Rattle.std.specs.Prelude.{ℤ}
 use Rattle.program_grammar.specs.Terms.{Term, class_of, Name, Number, Signal, Int, In, Skip, If, Then, Else, New, Hence, Next, Always, When, Do, Watching, Time, On, Semicolon, Comma, Range, Ampersand, Bars, OpenBrace, CloseBrace, Bang, Hash, GreaterEqual, LessEqual, Equal}
 use Rattle.program_grammar.specs.declared.parts.Part.{Part}
 use Rattle.program_grammar.specs.declared.parts.Part.TheVariants.{Declarations, MoreNames, OneUnit, MoreUnits, OneToken, MoreTokens, Bound, Branch, DeclaredName, DeniedName, ClashingName, LocalName, LeastNumber, MostNumber, ExactNumber, TheIn, TheClose, EndTell, EndBody, EndLocal, DeclaredIntName, LocalIntName, DomainIn, LowNumber, TheRange, HighNumber, MoreItems, NewKind, TheDo, TheWatching, TheOn, EndWatch, EndTimed}
-use Rattle.program_grammar.specs.Phrases.{Token, Denies, Clashes, AtLeast, AtMost, Exactly, Constraint, Both, Unit', Nothing, Tell, Braces, IfThen, IfElse, LocalSignal, LocalInt, Henceforth, AtNext, Ever, Whenever, Watch, Timed, Agent, Par, Names, LastName, MoreName, Items, LastItem, MoreItem, Program, Signals, Ints}
+use Rattle.program_grammar.specs.Phrases.{TokenPhrase, AtLeast, AtMost, Exactly, ConstraintPhrase, Both, UnitPhrase, Tell, Braces, IfThen, IfElse, LocalSignal, LocalInt, AgentPhrase, Par, NamesPhrase, LastName, MoreName, ItemsPhrase, LastItem, MoreItem, ProgramPhrase, Signals, Ints}
+use Rattle.program_grammar.specs.Phrases as phrase
 use Rattle.program_grammar.specs.Spelling.{token, constraint, unit, agent, names, items, program}
 use Rattle.program_grammar.specs.Table.{after}
 
 -- The words are the part and then the rest. A part that goes on with what stands before it is what completes that.
 abbrev pub Is : Part → List Term → List Term → Type 0
-Is Declarations ws k = (l : List Term) (p : Program) → k ≡ program p l → (q : Program) × (ws ≡ program q l)
-Is MoreNames ws k = (x : List ℕ) → (ns : Names) × (Name x ∷ ws ≡ names ns (Semicolon ∷ k))
-Is OneUnit ws k = (u : Unit') × (ws ≡ unit u k)
-Is MoreUnits ws k = (u : Unit') → (a : Agent) × (unit u ws ≡ agent a k)
-Is OneToken ws k = (t : Token) × (ws ≡ token t k)
-Is MoreTokens ws k = (t : Token) → (c : Constraint) × (token t ws ≡ constraint c k)
-Is Bound ws k = (x : List ℕ) → (t : Token) × (Name x ∷ ws ≡ token t k)
-Is Branch ws k = (c : Constraint) → (u : Unit') × (If ∷ constraint c ws ≡ unit u k)
+Is Declarations ws k = (l : List Term) (p : ProgramPhrase) → k ≡ program p l → (q : ProgramPhrase) × (ws ≡ program q l)
+Is MoreNames ws k = (x : List ℕ) → (ns : NamesPhrase) × (Name x ∷ ws ≡ names ns (Semicolon ∷ k))
+Is OneUnit ws k = (u : UnitPhrase) × (ws ≡ unit u k)
+Is MoreUnits ws k = (u : UnitPhrase) → (a : AgentPhrase) × (unit u ws ≡ agent a k)
+Is OneToken ws k = (t : TokenPhrase) × (ws ≡ token t k)
+Is MoreTokens ws k = (t : TokenPhrase) → (c : ConstraintPhrase) × (token t ws ≡ constraint c k)
+Is Bound ws k = (x : List ℕ) → (t : TokenPhrase) × (Name x ∷ ws ≡ token t k)
+Is Branch ws k = (c : ConstraintPhrase) → (u : UnitPhrase) × (If ∷ constraint c ws ≡ unit u k)
 Is DeclaredName ws k = (x : List ℕ) × (ws ≡ Name x ∷ k)
 Is DeniedName ws k = (x : List ℕ) × (ws ≡ Name x ∷ k)
 Is ClashingName ws k = (x : List ℕ) × (ws ≡ Name x ∷ k)
@@ -31,8 +32,8 @@ Is DomainIn ws k = ws ≡ In ∷ k
 Is LowNumber ws k = (n : ℤ) × (ws ≡ Number n ∷ k)
 Is HighNumber ws k = (n : ℤ) × (ws ≡ Number n ∷ k)
 Is TheRange ws k = ws ≡ Range ∷ k
-Is MoreItems ws k = (x : List ℕ) → (l h : ℤ) → (is : Items) × (Name x ∷ In ∷ Number l ∷ Range ∷ Number h ∷ ws ≡ items is (Semicolon ∷ k))
-Is NewKind ws k = (u : Unit') × (New ∷ ws ≡ unit u k)
+Is MoreItems ws k = (x : List ℕ) → (l h : ℤ) → (is : ItemsPhrase) × (Name x ∷ In ∷ Number l ∷ Range ∷ Number h ∷ ws ≡ items is (Semicolon ∷ k))
+Is NewKind ws k = (u : UnitPhrase) × (New ∷ ws ≡ unit u k)
 Is TheDo ws k = ws ≡ Do ∷ k
 Is TheWatching ws k = ws ≡ Watching ∷ k
 Is TheOn ws k = ws ≡ On ∷ k
@@ -53,19 +54,19 @@ name_bound : (x : List ℕ) (u k : List Term) → AreAll (Bound ∷ []) u k → 
 name_bound x u k (m, b, e) = let (t, et) = b x in (t, cc)
 
 off_name : (u k : List Term) → AreAll (DeniedName ∷ []) u k → Is OneToken (Bang ∷ u) k
-off_name u k (m, (x, ex), e) = (Denies x, cc)
+off_name u k (m, (x, ex), e) = (phrase.Off x, cc)
 
 clash_name : (u k : List Term) → AreAll (ClashingName ∷ []) u k → Is OneToken (Hash ∷ u) k
-clash_name u k (m, (x, ex), e) = (Clashes x, cc)
+clash_name u k (m, (x, ex), e) = (phrase.Clash x, cc)
 
 tell_name : (x : List ℕ) (u k : List Term) → AreAll (Bound ∷ MoreTokens ∷ EndTell ∷ []) u k → Is OneUnit (Name x ∷ u) k
 tell_name x u k (m, b, (n, more, (l, ends, e))) = let (t, et) = b x in let (c, ec) = more t in (Tell c, cc)
 
 tell_off : (u k : List Term) → AreAll (DeniedName ∷ MoreTokens ∷ EndTell ∷ []) u k → Is OneUnit (Bang ∷ u) k
-tell_off u k (m, (x, ex), (n, more, (l, ends, e))) = let (c, ec) = more (Denies x) in (Tell c, cc)
+tell_off u k (m, (x, ex), (n, more, (l, ends, e))) = let (c, ec) = more (phrase.Off x) in (Tell c, cc)
 
 tell_clash : (u k : List Term) → AreAll (ClashingName ∷ MoreTokens ∷ EndTell ∷ []) u k → Is OneUnit (Hash ∷ u) k
-tell_clash u k (m, (x, ex), (n, more, (l, ends, e))) = let (c, ec) = more (Clashes x) in (Tell c, cc)
+tell_clash u k (m, (x, ex), (n, more, (l, ends, e))) = let (c, ec) = more (phrase.Clash x) in (Tell c, cc)
 
 braces : (u k : List Term) → AreAll (OneUnit ∷ MoreUnits ∷ TheClose ∷ []) u k → Is OneUnit (OpenBrace ∷ u) k
 braces u k (m, (v, ev), (n, more, (l, ec, e))) = let (a, ea) = more v in (Braces a, cc)
@@ -74,7 +75,7 @@ asks : (u k : List Term) → AreAll (OneToken ∷ MoreTokens ∷ Branch ∷ []) 
 asks u k (m, (t, et), (n, more, (l, branch, e))) = let (c, ec) = more t in let (v, ev) = branch c in (v, cc)
 
 hence : (u k : List Term) → AreAll (OneUnit ∷ EndBody ∷ []) u k → Is OneUnit (Hence ∷ u) k
-hence u k (m, (v, ev), (l, ends, e)) = (Henceforth v, cc)
+hence u k (m, (v, ev), (l, ends, e)) = (phrase.Hence v, cc)
 
 local : (u k : List Term) → AreAll (NewKind ∷ []) u k → Is OneUnit (New ∷ u) k
 local u k (m, (v, ev), e) = (v, ev ∙ ap (unit v) e)
@@ -86,22 +87,22 @@ new_int : (u k : List Term) → AreAll (LocalIntName ∷ DomainIn ∷ LowNumber 
 new_int u k (n, (x, ex), (a, ea, (b, (y, ey), (c, ec, (d, (z, ez), (l, ei, (j, (v, ev), (h, ends, e)))))))) = (LocalInt x y z v, cc)
 
 after_one : (u k : List Term) → AreAll (OneUnit ∷ EndBody ∷ []) u k → Is OneUnit (Next ∷ u) k
-after_one u k (m, (v, ev), (l, ends, e)) = (AtNext v, cc)
+after_one u k (m, (v, ev), (l, ends, e)) = (phrase.Next v, cc)
 
 ever : (u k : List Term) → AreAll (OneUnit ∷ EndBody ∷ []) u k → Is OneUnit (Always ∷ u) k
-ever u k (m, (v, ev), (l, ends, e)) = (Ever v, cc)
+ever u k (m, (v, ev), (l, ends, e)) = (phrase.Always v, cc)
 
 whenever : (u k : List Term) → AreAll (OneToken ∷ MoreTokens ∷ TheDo ∷ OneUnit ∷ EndBody ∷ []) u k → Is OneUnit (When ∷ u) k
-whenever u k (m, (t, et), (n, more, (l, ed, (j, (v, ev), (h, ends, e))))) = let (c, ec) = more t in (Whenever c v, cc)
+whenever u k (m, (t, et), (n, more, (l, ed, (j, (v, ev), (h, ends, e))))) = let (c, ec) = more t in (phrase.When c v, cc)
 
 watch : (u k : List Term) → AreAll (OneUnit ∷ MoreUnits ∷ TheWatching ∷ OneToken ∷ MoreTokens ∷ EndWatch ∷ []) u k → Is OneUnit (Do ∷ u) k
-watch u k (m, (v, ev), (n, more, (l, ew, (j, (t, et), (h, tokens, (i, ends, e)))))) = let (a, ea) = more v in let (c, ec) = tokens t in (Watch a c, cc)
+watch u k (m, (v, ev), (n, more, (l, ew, (j, (t, et), (h, tokens, (i, ends, e)))))) = let (a, ea) = more v in let (c, ec) = tokens t in (phrase.Watching a c, cc)
 
 timed : (u k : List Term) → AreAll (OneUnit ∷ MoreUnits ∷ TheOn ∷ OneToken ∷ MoreTokens ∷ EndTimed ∷ []) u k → Is OneUnit (Time ∷ u) k
-timed u k (m, (v, ev), (n, more, (l, ew, (j, (t, et), (h, tokens, (i, ends, e)))))) = let (a, ea) = more v in let (c, ec) = tokens t in (Timed a c, cc)
+timed u k (m, (v, ev), (n, more, (l, ew, (j, (t, et), (h, tokens, (i, ends, e)))))) = let (a, ea) = more v in let (c, ec) = tokens t in (phrase.TimeOn a c, cc)
 
 unit_back : (w : Term) (u k : List Term) → IfSome (after OneUnit (class_of w)) (λ rest. AreAll rest u k → Is OneUnit (w ∷ u) k)
-unit_back Skip u k = λ e. (Nothing, ap (λ l. Skip ∷ l) e)
+unit_back Skip u k = λ e. (phrase.Skip, ap (λ l. Skip ∷ l) e)
 unit_back (Name x) u k = tell_name x u k
 unit_back Bang u k = tell_off u k
 unit_back Hash u k = tell_clash u k

@@ -5,7 +5,8 @@ use Rattle.std.proofs.lemmas.List.{append-nil}
 use Rattle.program_grammar.specs.Terms.{Term, class_of, classes, Name, Number, Signal, In, Skip, Then, Do, Watching, On, Semicolon, Range, CloseBrace}
 use Rattle.program_grammar.specs.declared.parts.Part.{Part}
 use Rattle.program_grammar.specs.declared.parts.Part.TheVariants.{Declarations, MoreNames, OneUnit, MoreUnits, OneToken, MoreTokens, Bound, Branch, DeclaredName, DeniedName, ClashingName, LocalName, LeastNumber, MostNumber, ExactNumber, TheIn, TheClose, EndTell, EndBody, EndLocal, DeclaredIntName, LocalIntName, DomainIn, LowNumber, TheRange, HighNumber, MoreItems, NewKind, TheDo, TheWatching, TheOn, EndWatch, EndTimed}
-use Rattle.program_grammar.specs.Phrases.{Asserts, One, Nothing, IfThen, LocalSignal, Only, LastName, LastItem, Program, Runs}
+use Rattle.program_grammar.specs.Phrases.{One, IfThen, LocalSignal, Only, LastName, LastItem, ProgramPhrase, Runs}
+use Rattle.program_grammar.specs.Phrases as phrase
 use Rattle.program_grammar.specs.Spelling.{agent, program}
 use Rattle.program_grammar.specs.Table.{after}
 use Rattle.program_grammar.specs.Machine.{may_end, took, feed, run, ended, start}
@@ -30,7 +31,7 @@ absent : (p : Part) (k : List Term) → may_end p ≡ true → Is p k k
 absent Declarations k h = λ l p e. (p, e)
 absent MoreUnits k h = λ u. (Only u, refl)
 absent MoreTokens k h = λ t. (One t, refl)
-absent Bound k h = λ x. (Asserts x, refl)
+absent Bound k h = λ x. (phrase.On x, refl)
 absent EndTell k h = refl
 absent EndBody k h = refl
 absent EndLocal k h = refl
@@ -111,12 +112,12 @@ finish EndTimed k = k
 finishes : (p : Part) (k : List Term) → Is p (finish p k) k
 finishes Declarations k = λ l p e. (p, e)
 finishes MoreNames k = λ x. (LastName x, refl)
-finishes OneUnit k = (Nothing, refl)
+finishes OneUnit k = (phrase.Skip, refl)
 finishes MoreUnits k = λ u. (Only u, refl)
-finishes OneToken k = (Asserts (97 ∷ []), refl)
+finishes OneToken k = (phrase.On (97 ∷ []), refl)
 finishes MoreTokens k = λ t. (One t, refl)
-finishes Bound k = λ x. (Asserts x, refl)
-finishes Branch k = λ c. (IfThen c Nothing, refl)
+finishes Bound k = λ x. (phrase.On x, refl)
+finishes Branch k = λ c. (IfThen c phrase.Skip, refl)
 finishes DeclaredName k = (97 ∷ [], refl)
 finishes DeniedName k = (97 ∷ [], refl)
 finishes ClashingName k = (97 ∷ [], refl)
@@ -131,7 +132,7 @@ finishes LowNumber k = (pos 0, refl)
 finishes HighNumber k = (pos 0, refl)
 finishes TheRange k = refl
 finishes MoreItems k = λ x l h. (LastItem x l h, refl)
-finishes NewKind k = (LocalSignal (97 ∷ []) Nothing, refl)
+finishes NewKind k = (LocalSignal (97 ∷ []) phrase.Skip, refl)
 finishes TheDo k = refl
 finishes TheWatching k = refl
 finishes TheOn k = refl
@@ -157,15 +158,15 @@ all_absent [] e = refl
 all_absent (p ∷ ps) e = ([], absent p [] (and_left (may_end p) (ended ps) e), all_absent ps (and_right (may_end p) (ended ps) e))
 
 abbrev HasTerms : List Term → Type 0
-HasTerms ws = (p : Program) × (ws ≡ program p [])
+HasTerms ws = (p : ProgramPhrase) × (ws ≡ program p [])
 
 only_program : (ws : List Term) → AreAll start ws [] → HasTerms ws
 only_program ws (m, decls, (n, (u, eu), (l, more, e))) = let (a, ea) = more u in decls [] (Runs a) (eu ∙ ea ∙ ap (agent a) e)
 
 -- what the machine goes through, with what completes it, is a program
-pub run_completed : (ws : List Term) (qs : List Part) → run start (classes ws) ≡ Some qs → (p : Program) × (ws ++ completion qs ≡ program p [])
+pub run_completed : (ws : List Term) (qs : List Part) → run start (classes ws) ≡ Some qs → (p : ProgramPhrase) × (ws ++ completion qs ≡ program p [])
 run_completed ws qs e = only_program (ws ++ completion qs) (run_back ws start qs (completion qs) [] e (completes qs))
 
 -- where it may end, the words alone are a program
-pub run_ended : (ws : List Term) (qs : List Part) → run start (classes ws) ≡ Some qs → ended qs ≡ true → (p : Program) × (ws ≡ program p [])
+pub run_ended : (ws : List Term) (qs : List Part) → run start (classes ws) ≡ Some qs → ended qs ≡ true → (p : ProgramPhrase) × (ws ≡ program p [])
 run_ended ws qs e h = subst HasTerms (append-nil ws) (only_program (ws ++ []) (run_back ws start qs [] [] e (all_absent qs h)))

@@ -5,7 +5,8 @@ use Rattle.program_grammar.specs.Terms.{Term, class_of, classes, Name, Number, S
 use Rattle.program_grammar.specs.declared.words.Word.{Word}
 use Rattle.program_grammar.specs.declared.parts.Part.{Part}
 use Rattle.program_grammar.specs.declared.parts.Part.TheVariants.{Declarations, MoreNames, OneUnit, MoreUnits, OneToken, MoreTokens, Bound, Branch, DeclaredName, LocalName, TheIn, TheClose, EndTell, EndBody, EndLocal, DeclaredIntName, LocalIntName, DomainIn, LowNumber, TheRange, HighNumber, MoreItems, NewKind, TheDo, TheWatching, TheOn, EndWatch, EndTimed}
-use Rattle.program_grammar.specs.Phrases.{Token, Asserts, Denies, Clashes, AtLeast, AtMost, Exactly, Constraint, One, Both, Unit', Nothing, Tell, Braces, IfThen, IfElse, LocalSignal, LocalInt, Henceforth, AtNext, Ever, Whenever, Watch, Timed, Agent, Only, Par, Names, LastName, MoreName, Items, LastItem, MoreItem, Program, Runs, Signals, Ints}
+use Rattle.program_grammar.specs.Phrases.{TokenPhrase, AtLeast, AtMost, Exactly, ConstraintPhrase, One, Both, UnitPhrase, Tell, Braces, IfThen, IfElse, LocalSignal, LocalInt, AgentPhrase, Only, Par, NamesPhrase, LastName, MoreName, ItemsPhrase, LastItem, MoreItem, ProgramPhrase, Runs, Signals, Ints}
+use Rattle.program_grammar.specs.Phrases as phrase
 use Rattle.program_grammar.specs.Spelling.{token, constraint, unit, agent, names, items, program}
 use Rattle.program_grammar.specs.Table.{after}
 use Rattle.program_grammar.specs.Machine.{may_end, took, feed, run, ended, start}
@@ -46,98 +47,98 @@ pass : (f : List Event → List Event) (p : Part) (ps : List Part) (ts : List Te
 pass f p ps [] m h = pop f p ps [] m refl
 pass f p ps (t ∷ ts) m h = pop f p ps (t ∷ ts) m (ap is_none (h (class_of t)))
 
-token_trace : (f : List Event → List Event) (t : Token) (ps : List Part) (k : List Term) → stops Bound k ≡ true → events f (OneToken ∷ ps) (token t k) ≡ events (λ es. f (token_events OneToken t es)) ps k
-token_trace f (Asserts x) ps k s = pop (λ es. f (Takes OneToken (Name x) ∷ es)) Bound ps k refl s
-token_trace f (Denies x) ps k s = refl
-token_trace f (Clashes x) ps k s = refl
+token_trace : (f : List Event → List Event) (t : TokenPhrase) (ps : List Part) (k : List Term) → stops Bound k ≡ true → events f (OneToken ∷ ps) (token t k) ≡ events (λ es. f (token_events OneToken t es)) ps k
+token_trace f (phrase.On x) ps k s = pop (λ es. f (Takes OneToken (Name x) ∷ es)) Bound ps k refl s
+token_trace f (phrase.Off x) ps k s = refl
+token_trace f (phrase.Clash x) ps k s = refl
 token_trace f (AtLeast x n) ps k s = refl
 token_trace f (AtMost x n) ps k s = refl
 token_trace f (Exactly x n) ps k s = refl
 
 -- the token that a unit begins with
-unit_token : (f : List Event → List Event) (t : Token) (ps : List Part) (k : List Term) → stops Bound k ≡ true → events f (OneUnit ∷ ps) (token t k) ≡ events (λ es. f (token_events OneUnit t es)) (MoreTokens ∷ EndTell ∷ ps) k
-unit_token f (Asserts x) ps k s = pop (λ es. f (Takes OneUnit (Name x) ∷ es)) Bound (MoreTokens ∷ EndTell ∷ ps) k refl s
-unit_token f (Denies x) ps k s = refl
-unit_token f (Clashes x) ps k s = refl
+unit_token : (f : List Event → List Event) (t : TokenPhrase) (ps : List Part) (k : List Term) → stops Bound k ≡ true → events f (OneUnit ∷ ps) (token t k) ≡ events (λ es. f (token_events OneUnit t es)) (MoreTokens ∷ EndTell ∷ ps) k
+unit_token f (phrase.On x) ps k s = pop (λ es. f (Takes OneUnit (Name x) ∷ es)) Bound (MoreTokens ∷ EndTell ∷ ps) k refl s
+unit_token f (phrase.Off x) ps k s = refl
+unit_token f (phrase.Clash x) ps k s = refl
 unit_token f (AtLeast x n) ps k s = refl
 unit_token f (AtMost x n) ps k s = refl
 unit_token f (Exactly x n) ps k s = refl
 
-tokens_trace : (f : List Event → List Event) (c : Constraint) (ps : List Part) (k : List Term) → stops Bound k ≡ true → stops MoreTokens k ≡ true → events f (OneToken ∷ MoreTokens ∷ ps) (constraint c k) ≡ events (λ es. f (constraint_events OneToken c es)) ps k
+tokens_trace : (f : List Event → List Event) (c : ConstraintPhrase) (ps : List Part) (k : List Term) → stops Bound k ≡ true → stops MoreTokens k ≡ true → events f (OneToken ∷ MoreTokens ∷ ps) (constraint c k) ≡ events (λ es. f (constraint_events OneToken c es)) ps k
 tokens_trace f (One t) ps k b s = token_trace f t (MoreTokens ∷ ps) k b ∙ pop (λ es. f (token_events OneToken t es)) MoreTokens ps k refl s
 tokens_trace f (Both t c) ps k b s = token_trace f t (MoreTokens ∷ ps) (Ampersand ∷ constraint c k) refl ∙ tokens_trace (λ es. f (token_events OneToken t (Takes MoreTokens Ampersand ∷ es))) c ps k b s
 
-unit_constraint : (f : List Event → List Event) (c : Constraint) (ps : List Part) (k : List Term) → stops Bound k ≡ true → stops MoreTokens k ≡ true → events f (OneUnit ∷ ps) (constraint c k) ≡ events (λ es. f (constraint_events OneUnit c es)) (EndTell ∷ ps) k
+unit_constraint : (f : List Event → List Event) (c : ConstraintPhrase) (ps : List Part) (k : List Term) → stops Bound k ≡ true → stops MoreTokens k ≡ true → events f (OneUnit ∷ ps) (constraint c k) ≡ events (λ es. f (constraint_events OneUnit c es)) (EndTell ∷ ps) k
 unit_constraint f (One t) ps k b s = unit_token f t ps k b ∙ pop (λ es. f (token_events OneUnit t es)) MoreTokens (EndTell ∷ ps) k refl s
 unit_constraint f (Both t c) ps k b s = unit_token f t ps (Ampersand ∷ constraint c k) refl ∙ tokens_trace (λ es. f (token_events OneUnit t (Takes MoreTokens Ampersand ∷ es))) c (EndTell ∷ ps) k b s
 
-body_left : (f : List Event → List Event) (u : Unit') (ps : List Part) (k : List Term) → events (λ es. f (unit_events u es)) (EndBody ∷ ps) k ≡ events (λ es. f (unit_events u (Leaves EndBody ∷ es))) ps k
+body_left : (f : List Event → List Event) (u : UnitPhrase) (ps : List Part) (k : List Term) → events (λ es. f (unit_events u es)) (EndBody ∷ ps) k ≡ events (λ es. f (unit_events u (Leaves EndBody ∷ es))) ps k
 body_left f u ps k = pass (λ es. f (unit_events u es)) EndBody ps k refl (λ w. refl)
 
-local_left : (f : List Event → List Event) (u : Unit') (ps : List Part) (k : List Term) → events (λ es. f (unit_events u es)) (EndLocal ∷ ps) k ≡ events (λ es. f (unit_events u (Leaves EndLocal ∷ es))) ps k
+local_left : (f : List Event → List Event) (u : UnitPhrase) (ps : List Part) (k : List Term) → events (λ es. f (unit_events u es)) (EndLocal ∷ ps) k ≡ events (λ es. f (unit_events u (Leaves EndLocal ∷ es))) ps k
 local_left f u ps k = pass (λ es. f (unit_events u es)) EndLocal ps k refl (λ w. refl)
 
 mutual
-  unit_trace : (f : List Event → List Event) (u : Unit') (ps : List Part) (k : List Term) → stops Bound k ≡ true → stops MoreTokens k ≡ true → events f (OneUnit ∷ ps) (unit u k) ≡ events (λ es. f (unit_events u es)) ps k
-  unit_trace f Nothing ps k b s = refl
+  unit_trace : (f : List Event → List Event) (u : UnitPhrase) (ps : List Part) (k : List Term) → stops Bound k ≡ true → stops MoreTokens k ≡ true → events f (OneUnit ∷ ps) (unit u k) ≡ events (λ es. f (unit_events u es)) ps k
+  unit_trace f phrase.Skip ps k b s = refl
   unit_trace f (Tell c) ps k b s = unit_constraint f c ps k b s ∙ pass (λ es. f (constraint_events OneUnit c es)) EndTell ps k refl (λ w. refl)
   unit_trace f (Braces a) ps k b s = agent_trace (λ es. f (Takes OneUnit OpenBrace ∷ es)) a (TheClose ∷ ps) (CloseBrace ∷ k) refl refl refl
   unit_trace f (IfThen c u) ps k b s = tokens_trace (λ es. f (Takes OneUnit If ∷ es)) c (Branch ∷ ps) (Then ∷ unit u k) refl refl ∙ unit_trace (λ es. f (Takes OneUnit If ∷ constraint_events OneToken c (Takes Branch Then ∷ es))) u (EndBody ∷ ps) k b s ∙ body_left (λ es. f (Takes OneUnit If ∷ constraint_events OneToken c (Takes Branch Then ∷ es))) u ps k
   unit_trace f (IfElse c u) ps k b s = tokens_trace (λ es. f (Takes OneUnit If ∷ es)) c (Branch ∷ ps) (Else ∷ unit u k) refl refl ∙ unit_trace (λ es. f (Takes OneUnit If ∷ constraint_events OneToken c (Takes Branch Else ∷ es))) u (EndBody ∷ ps) k b s ∙ body_left (λ es. f (Takes OneUnit If ∷ constraint_events OneToken c (Takes Branch Else ∷ es))) u ps k
   unit_trace f (LocalSignal x u) ps k b s = unit_trace (λ es. f (Takes OneUnit New ∷ Takes NewKind Signal ∷ Takes LocalName (Name x) ∷ Takes TheIn In ∷ es)) u (EndLocal ∷ ps) k b s ∙ local_left (λ es. f (Takes OneUnit New ∷ Takes NewKind Signal ∷ Takes LocalName (Name x) ∷ Takes TheIn In ∷ es)) u ps k
   unit_trace f (LocalInt x l h u) ps k b s = unit_trace (λ es. f (Takes OneUnit New ∷ Takes NewKind Int ∷ Takes LocalIntName (Name x) ∷ Takes DomainIn In ∷ Takes LowNumber (Number l) ∷ Takes TheRange Range ∷ Takes HighNumber (Number h) ∷ Takes TheIn In ∷ es)) u (EndLocal ∷ ps) k b s ∙ local_left (λ es. f (Takes OneUnit New ∷ Takes NewKind Int ∷ Takes LocalIntName (Name x) ∷ Takes DomainIn In ∷ Takes LowNumber (Number l) ∷ Takes TheRange Range ∷ Takes HighNumber (Number h) ∷ Takes TheIn In ∷ es)) u ps k
-  unit_trace f (Henceforth u) ps k b s = unit_trace (λ es. f (Takes OneUnit Hence ∷ es)) u (EndBody ∷ ps) k b s ∙ body_left (λ es. f (Takes OneUnit Hence ∷ es)) u ps k
-  unit_trace f (AtNext u) ps k b s = unit_trace (λ es. f (Takes OneUnit Next ∷ es)) u (EndBody ∷ ps) k b s ∙ body_left (λ es. f (Takes OneUnit Next ∷ es)) u ps k
-  unit_trace f (Ever u) ps k b s = unit_trace (λ es. f (Takes OneUnit Always ∷ es)) u (EndBody ∷ ps) k b s ∙ body_left (λ es. f (Takes OneUnit Always ∷ es)) u ps k
-  unit_trace f (Whenever c u) ps k b s = tokens_trace (λ es. f (Takes OneUnit When ∷ es)) c (TheDo ∷ OneUnit ∷ EndBody ∷ ps) (Do ∷ unit u k) refl refl ∙ unit_trace (λ es. f (Takes OneUnit When ∷ constraint_events OneToken c (Takes TheDo Do ∷ es))) u (EndBody ∷ ps) k b s ∙ body_left (λ es. f (Takes OneUnit When ∷ constraint_events OneToken c (Takes TheDo Do ∷ es))) u ps k
-  unit_trace f (Watch a c) ps k b s = agent_trace (λ es. f (Takes OneUnit Do ∷ es)) a (TheWatching ∷ OneToken ∷ MoreTokens ∷ EndWatch ∷ ps) (Watching ∷ constraint c k) refl refl refl ∙ tokens_trace (λ es. f (Takes OneUnit Do ∷ agent_events a (Takes TheWatching Watching ∷ es))) c (EndWatch ∷ ps) k b s ∙ pass (λ es. f (Takes OneUnit Do ∷ agent_events a (Takes TheWatching Watching ∷ constraint_events OneToken c es))) EndWatch ps k refl (λ w. refl)
-  unit_trace f (Timed a c) ps k b s = agent_trace (λ es. f (Takes OneUnit Time ∷ es)) a (TheOn ∷ OneToken ∷ MoreTokens ∷ EndTimed ∷ ps) (On ∷ constraint c k) refl refl refl ∙ tokens_trace (λ es. f (Takes OneUnit Time ∷ agent_events a (Takes TheOn On ∷ es))) c (EndTimed ∷ ps) k b s ∙ pass (λ es. f (Takes OneUnit Time ∷ agent_events a (Takes TheOn On ∷ constraint_events OneToken c es))) EndTimed ps k refl (λ w. refl)
+  unit_trace f (phrase.Hence u) ps k b s = unit_trace (λ es. f (Takes OneUnit Hence ∷ es)) u (EndBody ∷ ps) k b s ∙ body_left (λ es. f (Takes OneUnit Hence ∷ es)) u ps k
+  unit_trace f (phrase.Next u) ps k b s = unit_trace (λ es. f (Takes OneUnit Next ∷ es)) u (EndBody ∷ ps) k b s ∙ body_left (λ es. f (Takes OneUnit Next ∷ es)) u ps k
+  unit_trace f (phrase.Always u) ps k b s = unit_trace (λ es. f (Takes OneUnit Always ∷ es)) u (EndBody ∷ ps) k b s ∙ body_left (λ es. f (Takes OneUnit Always ∷ es)) u ps k
+  unit_trace f (phrase.When c u) ps k b s = tokens_trace (λ es. f (Takes OneUnit When ∷ es)) c (TheDo ∷ OneUnit ∷ EndBody ∷ ps) (Do ∷ unit u k) refl refl ∙ unit_trace (λ es. f (Takes OneUnit When ∷ constraint_events OneToken c (Takes TheDo Do ∷ es))) u (EndBody ∷ ps) k b s ∙ body_left (λ es. f (Takes OneUnit When ∷ constraint_events OneToken c (Takes TheDo Do ∷ es))) u ps k
+  unit_trace f (phrase.Watching a c) ps k b s = agent_trace (λ es. f (Takes OneUnit Do ∷ es)) a (TheWatching ∷ OneToken ∷ MoreTokens ∷ EndWatch ∷ ps) (Watching ∷ constraint c k) refl refl refl ∙ tokens_trace (λ es. f (Takes OneUnit Do ∷ agent_events a (Takes TheWatching Watching ∷ es))) c (EndWatch ∷ ps) k b s ∙ pass (λ es. f (Takes OneUnit Do ∷ agent_events a (Takes TheWatching Watching ∷ constraint_events OneToken c es))) EndWatch ps k refl (λ w. refl)
+  unit_trace f (phrase.TimeOn a c) ps k b s = agent_trace (λ es. f (Takes OneUnit Time ∷ es)) a (TheOn ∷ OneToken ∷ MoreTokens ∷ EndTimed ∷ ps) (On ∷ constraint c k) refl refl refl ∙ tokens_trace (λ es. f (Takes OneUnit Time ∷ agent_events a (Takes TheOn On ∷ es))) c (EndTimed ∷ ps) k b s ∙ pass (λ es. f (Takes OneUnit Time ∷ agent_events a (Takes TheOn On ∷ constraint_events OneToken c es))) EndTimed ps k refl (λ w. refl)
 
-  agent_trace : (f : List Event → List Event) (a : Agent) (ps : List Part) (k : List Term) → stops Bound k ≡ true → stops MoreTokens k ≡ true → stops MoreUnits k ≡ true → events f (OneUnit ∷ MoreUnits ∷ ps) (agent a k) ≡ events (λ es. f (agent_events a es)) ps k
+  agent_trace : (f : List Event → List Event) (a : AgentPhrase) (ps : List Part) (k : List Term) → stops Bound k ≡ true → stops MoreTokens k ≡ true → stops MoreUnits k ≡ true → events f (OneUnit ∷ MoreUnits ∷ ps) (agent a k) ≡ events (λ es. f (agent_events a es)) ps k
   agent_trace f (Only u) ps k b s m = unit_trace f u (MoreUnits ∷ ps) k b s ∙ pop (λ es. f (unit_events u es)) MoreUnits ps k refl m
   agent_trace f (Par u a) ps k b s m = unit_trace f u (MoreUnits ∷ ps) (Bars ∷ agent a k) refl refl ∙ agent_trace (λ es. f (unit_events u (Takes MoreUnits Bars ∷ es))) a ps k b s m
 
-names_trace : (f : List Event → List Event) (ns : Names) (ps : List Part) (k : List Term) → events f (DeclaredName ∷ MoreNames ∷ ps) (names ns (Semicolon ∷ k)) ≡ events (λ es. f (names_events ns es)) ps k
+names_trace : (f : List Event → List Event) (ns : NamesPhrase) (ps : List Part) (k : List Term) → events f (DeclaredName ∷ MoreNames ∷ ps) (names ns (Semicolon ∷ k)) ≡ events (λ es. f (names_events ns es)) ps k
 names_trace f (LastName x) ps k = refl
 names_trace f (MoreName x ns) ps k = names_trace (λ es. f (Takes DeclaredName (Name x) ∷ Takes MoreNames Comma ∷ es)) ns ps k
 
-items_trace : (f : List Event → List Event) (is : Items) (ps : List Part) (k : List Term) → events f (DeclaredIntName ∷ DomainIn ∷ LowNumber ∷ TheRange ∷ HighNumber ∷ MoreItems ∷ ps) (items is (Semicolon ∷ k)) ≡ events (λ es. f (items_events is es)) ps k
+items_trace : (f : List Event → List Event) (is : ItemsPhrase) (ps : List Part) (k : List Term) → events f (DeclaredIntName ∷ DomainIn ∷ LowNumber ∷ TheRange ∷ HighNumber ∷ MoreItems ∷ ps) (items is (Semicolon ∷ k)) ≡ events (λ es. f (items_events is es)) ps k
 items_trace f (LastItem x l h) ps k = refl
 items_trace f (MoreItem x l h is) ps k = items_trace (λ es. f (Takes DeclaredIntName (Name x) ∷ Takes DomainIn In ∷ Takes LowNumber (Number l) ∷ Takes TheRange Range ∷ Takes HighNumber (Number h) ∷ Takes MoreItems Comma ∷ es)) is ps k
 
 -- no agent begins as a declaration does
-no_declaration_token : (t : Token) (k : List Term) → stops Declarations (token t k) ≡ true
-no_declaration_token (Asserts x) k = refl
-no_declaration_token (Denies x) k = refl
-no_declaration_token (Clashes x) k = refl
+no_declaration_token : (t : TokenPhrase) (k : List Term) → stops Declarations (token t k) ≡ true
+no_declaration_token (phrase.On x) k = refl
+no_declaration_token (phrase.Off x) k = refl
+no_declaration_token (phrase.Clash x) k = refl
 no_declaration_token (AtLeast x n) k = refl
 no_declaration_token (AtMost x n) k = refl
 no_declaration_token (Exactly x n) k = refl
 
-no_declaration_constraint : (c : Constraint) (k : List Term) → stops Declarations (constraint c k) ≡ true
+no_declaration_constraint : (c : ConstraintPhrase) (k : List Term) → stops Declarations (constraint c k) ≡ true
 no_declaration_constraint (One t) k = no_declaration_token t k
 no_declaration_constraint (Both t c) k = no_declaration_token t (Ampersand ∷ constraint c k)
 
-no_declaration_unit : (u : Unit') (k : List Term) → stops Declarations (unit u k) ≡ true
+no_declaration_unit : (u : UnitPhrase) (k : List Term) → stops Declarations (unit u k) ≡ true
 no_declaration_unit (Tell c) k = no_declaration_constraint c k
-no_declaration_unit Nothing k = refl
+no_declaration_unit phrase.Skip k = refl
 no_declaration_unit (Braces a) k = refl
 no_declaration_unit (IfThen c u) k = refl
 no_declaration_unit (IfElse c u) k = refl
 no_declaration_unit (LocalSignal x u) k = refl
 no_declaration_unit (LocalInt x l h u) k = refl
-no_declaration_unit (Henceforth u) k = refl
-no_declaration_unit (AtNext u) k = refl
-no_declaration_unit (Ever u) k = refl
-no_declaration_unit (Whenever c u) k = refl
-no_declaration_unit (Watch a c) k = refl
-no_declaration_unit (Timed a c) k = refl
+no_declaration_unit (phrase.Hence u) k = refl
+no_declaration_unit (phrase.Next u) k = refl
+no_declaration_unit (phrase.Always u) k = refl
+no_declaration_unit (phrase.When c u) k = refl
+no_declaration_unit (phrase.Watching a c) k = refl
+no_declaration_unit (phrase.TimeOn a c) k = refl
 
-no_declaration_agent : (a : Agent) (k : List Term) → stops Declarations (agent a k) ≡ true
+no_declaration_agent : (a : AgentPhrase) (k : List Term) → stops Declarations (agent a k) ≡ true
 no_declaration_agent (Only u) k = no_declaration_unit u k
 no_declaration_agent (Par u a) k = no_declaration_unit u (Bars ∷ agent a k)
 
-program_trace : (f : List Event → List Event) (p : Program) → events f start (program p []) ≡ Some (f (program_events p))
+program_trace : (f : List Event → List Event) (p : ProgramPhrase) → events f start (program p []) ≡ Some (f (program_events p))
 program_trace f (Runs a) = pop f Declarations (OneUnit ∷ MoreUnits ∷ []) (agent a []) refl (no_declaration_agent a []) ∙ agent_trace (λ es. f (Leaves Declarations ∷ es)) a [] [] refl refl refl
 program_trace f (Signals ns p) = names_trace (λ es. f (Takes Declarations Signal ∷ es)) ns start (program p []) ∙ program_trace (λ es. f (Takes Declarations Signal ∷ names_events ns es)) p
 program_trace f (Ints is p) = items_trace (λ es. f (Takes Declarations Int ∷ es)) is start (program p []) ∙ program_trace (λ es. f (Takes Declarations Int ∷ items_events is es)) p
@@ -176,9 +177,9 @@ events_read (t ∷ ts) f ps n es e = go (feed ps (class_of t)) refl (λ qs h. ev
     go (Some qs) h ih e = let (goes, (rest, same, steps)) = ih qs e in (goes, (word_events ps t rest, same, ap (λ l. word_steps ps n (class_of t) ++ l) steps ∙ word_numbered ps qs t n rest h))
 
 -- The machine goes through a program and may end there.
-pub program_run : (p : Program) → (qs : List Part) × (run start (classes (program p [])) ≡ Some qs) × (ended qs ≡ true)
+pub program_run : (p : ProgramPhrase) → (qs : List Part) × (run start (classes (program p [])) ≡ Some qs) × (ended qs ≡ true)
 program_run p = (events_read (program p []) (λ es. es) start 0 (program_events p) (program_trace (λ es. es) p)).0
 
 -- The steps that it takes are those of the program.
-pub program_steps : (p : Program) → trace start 0 (classes (program p [])) ≡ numbered 0 (program_events p)
+pub program_steps : (p : ProgramPhrase) → trace start 0 (classes (program p [])) ≡ numbered 0 (program_events p)
 program_steps p = let (rest, same, steps) = (events_read (program p []) (λ es. es) start 0 (program_events p) (program_trace (λ es. es) p)).1 in steps ∙ ap (numbered 0) (sym same)

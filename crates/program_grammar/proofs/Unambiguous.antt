@@ -2,7 +2,8 @@
 use Rattle.std.proofs.Common.{◌≡◌, ℕ, ℤ, List, [], ◌∷◌, refl, ap, sym, ◌∙◌, arith}
 use Rattle.std.specs.Prelude.{map}
 use Rattle.program_grammar.specs.Terms.{Term, classes, Name, Number, Signal, Int, In, Skip, If, Then, Else, New, Hence, Next, Always, When, Do, Watching, Time, On, Semicolon, Comma, Range, Ampersand, Bars, OpenBrace, CloseBrace, Bang, Hash, GreaterEqual, LessEqual, Equal}
-use Rattle.program_grammar.specs.Phrases.{Token, Asserts, Denies, Clashes, AtLeast, AtMost, Exactly, Constraint, One, Both, Unit', Nothing, Tell, Braces, IfThen, IfElse, LocalSignal, LocalInt, Henceforth, AtNext, Ever, Whenever, Watch, Timed, Agent, Only, Par, Names, LastName, MoreName, Items, LastItem, MoreItem, Program, Runs, Signals, Ints}
+use Rattle.program_grammar.specs.Phrases.{TokenPhrase, AtLeast, AtMost, Exactly, ConstraintPhrase, One, Both, UnitPhrase, Tell, Braces, IfThen, IfElse, LocalSignal, LocalInt, AgentPhrase, Only, Par, NamesPhrase, LastName, MoreName, ItemsPhrase, LastItem, MoreItem, ProgramPhrase, Runs, Signals, Ints}
+use Rattle.program_grammar.specs.Phrases as phrases
 use Rattle.program_grammar.specs.declared.parts.Part.{Part}
 use Rattle.program_grammar.specs.declared.parts.Part.TheVariants.{Declarations, MoreNames, OneUnit, MoreUnits, OneToken, MoreTokens, Bound, Branch, DeclaredName, DeniedName, ClashingName, LocalName, LeastNumber, MostNumber, ExactNumber, TheIn, TheClose, EndTell, EndBody, EndLocal, DeclaredIntName, LocalIntName, DomainIn, LowNumber, TheRange, HighNumber, MoreItems, NewKind, TheDo, TheWatching, TheOn, EndWatch, EndTimed}
 use Rattle.program_grammar.specs.Spelling.{program}
@@ -19,16 +20,16 @@ less_first (x ∷ xs) = xs
 tail : {x y : Event} {xs ys : List Event} → x ∷ xs ≡ y ∷ ys → xs ≡ ys
 tail e = ap less_first e
 
-token_one : (p : Part) (t s : Token) (k l : List Event) → token_events p t k ≡ token_events p s l → (t ≡ s) × (k ≡ l)
-token_one p (Asserts x) (Asserts y) k l e = (cc, cc)
-token_one p (Denies x) (Denies y) k l e = (cc, cc)
-token_one p (Clashes x) (Clashes y) k l e = (cc, cc)
+token_one : (p : Part) (t s : TokenPhrase) (k l : List Event) → token_events p t k ≡ token_events p s l → (t ≡ s) × (k ≡ l)
+token_one p (phrases.On x) (phrases.On y) k l e = (cc, cc)
+token_one p (phrases.Off x) (phrases.Off y) k l e = (cc, cc)
+token_one p (phrases.Clash x) (phrases.Clash y) k l e = (cc, cc)
 token_one p (AtLeast x n) (AtLeast y m) k l e = (cc, cc)
 token_one p (AtMost x n) (AtMost y m) k l e = (cc, cc)
 token_one p (Exactly x n) (Exactly y m) k l e = (cc, cc)
 token_one p t s k l e = cc
 
-constraint_one : (p : Part) (c d : Constraint) (k l : List Event) → constraint_events p c k ≡ constraint_events p d l → (c ≡ d) × (k ≡ l)
+constraint_one : (p : Part) (c d : ConstraintPhrase) (k l : List Event) → constraint_events p c k ≡ constraint_events p d l → (c ≡ d) × (k ≡ l)
 constraint_one p (One t) (One s) k l e = let (first, rest) = token_one p t s _ _ e in (ap One first, tail rest)
 constraint_one p (Both t c) (Both s d) k l e =
     let (first, rest) = token_one p t s _ _ e in
@@ -37,20 +38,20 @@ constraint_one p (One t) (Both s d) k l e = let (first, rest) = token_one p t s 
 constraint_one p (Both t c) (One s) k l e = let (first, rest) = token_one p t s _ _ e in cc
 
 -- the form of a unit, as its first event tells it; if-then and if-else begin alike, and so do both forms of new
-abbrev form : Unit' → ℕ
-form Nothing = 0
+abbrev form : UnitPhrase → ℕ
+form phrases.Skip = 0
 form (Tell c) = 1
 form (Braces a) = 2
 form (IfThen c u) = 3
 form (IfElse c u) = 3
 form (LocalSignal x u) = 4
 form (LocalInt x l h u) = 4
-form (Henceforth u) = 5
-form (AtNext u) = 6
-form (Ever u) = 7
-form (Whenever c u) = 8
-form (Watch a c) = 9
-form (Timed a c) = 10
+form (phrases.Hence u) = 5
+form (phrases.Next u) = 6
+form (phrases.Always u) = 7
+form (phrases.When c u) = 8
+form (phrases.Watching a c) = 9
+form (phrases.TimeOn a c) = 10
 
 abbrev first_form : List Event → ℕ
 first_form (Takes p Skip ∷ es) = 0
@@ -65,16 +66,16 @@ first_form (Takes p Do ∷ es) = 9
 first_form (Takes p Time ∷ es) = 10
 first_form _ = 1
 
-token_form : (t : Token) (k : List Event) → first_form (token_events OneUnit t k) ≡ 1
-token_form (Asserts x) k = refl
-token_form (Denies x) k = refl
-token_form (Clashes x) k = refl
+token_form : (t : TokenPhrase) (k : List Event) → first_form (token_events OneUnit t k) ≡ 1
+token_form (phrases.On x) k = refl
+token_form (phrases.Off x) k = refl
+token_form (phrases.Clash x) k = refl
 token_form (AtLeast x n) k = refl
 token_form (AtMost x n) k = refl
 token_form (Exactly x n) k = refl
 
-unit_form : (u : Unit') (k : List Event) → first_form (unit_events u k) ≡ form u
-unit_form Nothing k = refl
+unit_form : (u : UnitPhrase) (k : List Event) → first_form (unit_events u k) ≡ form u
+unit_form phrases.Skip k = refl
 unit_form (Tell (One t)) k = token_form t (Leaves MoreTokens ∷ Leaves EndTell ∷ k)
 unit_form (Tell (Both t c)) k = token_form t (Takes MoreTokens Ampersand ∷ constraint_events OneToken c (Leaves EndTell ∷ k))
 unit_form (Braces a) k = refl
@@ -82,19 +83,19 @@ unit_form (IfThen c u) k = refl
 unit_form (IfElse c u) k = refl
 unit_form (LocalSignal x u) k = refl
 unit_form (LocalInt x l h u) k = refl
-unit_form (Henceforth u) k = refl
-unit_form (AtNext u) k = refl
-unit_form (Ever u) k = refl
-unit_form (Whenever c u) k = refl
-unit_form (Watch a c) k = refl
-unit_form (Timed a c) k = refl
+unit_form (phrases.Hence u) k = refl
+unit_form (phrases.Next u) k = refl
+unit_form (phrases.Always u) k = refl
+unit_form (phrases.When c u) k = refl
+unit_form (phrases.Watching a c) k = refl
+unit_form (phrases.TimeOn a c) k = refl
 
-same_form : (u v : Unit') (k l : List Event) → unit_events u k ≡ unit_events v l → form u ≡ form v
+same_form : (u v : UnitPhrase) (k l : List Event) → unit_events u k ≡ unit_events v l → form u ≡ form v
 same_form u v k l e = sym (unit_form u k) ∙ ap first_form e ∙ unit_form v l
 
 mutual
-  unit_one : (u v : Unit') (k l : List Event) → unit_events u k ≡ unit_events v l → (u ≡ v) × (k ≡ l)
-  unit_one Nothing Nothing k l e = (refl, tail e)
+  unit_one : (u v : UnitPhrase) (k l : List Event) → unit_events u k ≡ unit_events v l → (u ≡ v) × (k ≡ l)
+  unit_one phrases.Skip phrases.Skip k l e = (refl, tail e)
   unit_one (Tell c) (Tell d) k l e = let (told, rest) = constraint_one OneUnit c d _ _ e in (ap Tell told, tail rest)
   unit_one (Braces a) (Braces b) k l e = let (inner, rest) = agent_one a b _ _ (tail e) in (ap Braces inner, tail rest)
   unit_one (IfThen c u) (IfThen d v) k l e = let (ask, rest) = constraint_one OneToken c d _ _ (tail e) in let (body, end) = unit_one u v _ _ (tail rest) in (cc, tail end)
@@ -105,40 +106,40 @@ mutual
   unit_one (LocalInt x a b u) (LocalInt y c d v) k l e = let (body, end) = unit_one u v _ _ (tail (tail (tail (tail (tail (tail (tail (tail e)))))))) in (cc, tail end)
   unit_one (LocalSignal x u) (LocalInt y c d v) k l e = cc
   unit_one (LocalInt x a b u) (LocalSignal y v) k l e = cc
-  unit_one (Henceforth u) (Henceforth v) k l e = let (body, end) = unit_one u v _ _ (tail e) in (cc, tail end)
-  unit_one (AtNext u) (AtNext v) k l e = let (body, end) = unit_one u v _ _ (tail e) in (cc, tail end)
-  unit_one (Ever u) (Ever v) k l e = let (body, end) = unit_one u v _ _ (tail e) in (cc, tail end)
-  unit_one (Whenever c u) (Whenever d v) k l e = let (ask, rest) = constraint_one OneToken c d _ _ (tail e) in let (body, end) = unit_one u v _ _ (tail rest) in (cc, tail end)
-  unit_one (Watch a c) (Watch b d) k l e = let (inner, rest) = agent_one a b _ _ (tail e) in let (stop, end) = constraint_one OneToken c d _ _ (tail rest) in (cc, tail end)
-  unit_one (Timed a c) (Timed b d) k l e = let (inner, rest) = agent_one a b _ _ (tail e) in let (clock, end) = constraint_one OneToken c d _ _ (tail rest) in (cc, tail end)
+  unit_one (phrases.Hence u) (phrases.Hence v) k l e = let (body, end) = unit_one u v _ _ (tail e) in (cc, tail end)
+  unit_one (phrases.Next u) (phrases.Next v) k l e = let (body, end) = unit_one u v _ _ (tail e) in (cc, tail end)
+  unit_one (phrases.Always u) (phrases.Always v) k l e = let (body, end) = unit_one u v _ _ (tail e) in (cc, tail end)
+  unit_one (phrases.When c u) (phrases.When d v) k l e = let (ask, rest) = constraint_one OneToken c d _ _ (tail e) in let (body, end) = unit_one u v _ _ (tail rest) in (cc, tail end)
+  unit_one (phrases.Watching a c) (phrases.Watching b d) k l e = let (inner, rest) = agent_one a b _ _ (tail e) in let (stop, end) = constraint_one OneToken c d _ _ (tail rest) in (cc, tail end)
+  unit_one (phrases.TimeOn a c) (phrases.TimeOn b d) k l e = let (inner, rest) = agent_one a b _ _ (tail e) in let (clock, end) = constraint_one OneToken c d _ _ (tail rest) in (cc, tail end)
   unit_one u v k l e = let other = same_form u v k l e in absurd (omega (arith, other))
 
-  agent_one : (a b : Agent) (k l : List Event) → agent_events a k ≡ agent_events b l → (a ≡ b) × (k ≡ l)
+  agent_one : (a b : AgentPhrase) (k l : List Event) → agent_events a k ≡ agent_events b l → (a ≡ b) × (k ≡ l)
   agent_one (Only u) (Only v) k l e = let (unit, rest) = unit_one u v _ _ e in (ap Only unit, tail rest)
   agent_one (Par u a) (Par v b) k l e = let (left, rest) = unit_one u v _ _ e in let (right, end) = agent_one a b _ _ (tail rest) in (cc, end)
   agent_one (Only u) (Par v b) k l e = let (left, rest) = unit_one u v _ _ e in cc
   agent_one (Par u a) (Only v) k l e = let (left, rest) = unit_one u v _ _ e in cc
 
-names_one : (ns ms : Names) (k l : List Event) → names_events ns k ≡ names_events ms l → (ns ≡ ms) × (k ≡ l)
+names_one : (ns ms : NamesPhrase) (k l : List Event) → names_events ns k ≡ names_events ms l → (ns ≡ ms) × (k ≡ l)
 names_one (LastName x) (LastName y) k l e = (cc, (tail (tail e)))
 names_one (MoreName x ns) (MoreName y ms) k l e = let (more, end) = names_one ns ms _ _ (tail (tail e)) in (cc, end)
 names_one (LastName x) (MoreName y ms) k l e = cc
 names_one (MoreName x ns) (LastName y) k l e = cc
 
-items_one : (is js : Items) (k l : List Event) → items_events is k ≡ items_events js l → (is ≡ js) × (k ≡ l)
+items_one : (is js : ItemsPhrase) (k l : List Event) → items_events is k ≡ items_events js l → (is ≡ js) × (k ≡ l)
 items_one (LastItem x a b) (LastItem y c d) k l e = (cc, (tail (tail (tail (tail (tail (tail e)))))))
 items_one (MoreItem x a b is) (MoreItem y c d js) k l e = let (more, end) = items_one is js _ _ (tail (tail (tail (tail (tail (tail e)))))) in (cc, end)
 items_one (LastItem x a b) (MoreItem y c d js) k l e = cc
 items_one (MoreItem x a b is) (LastItem y c d) k l e = cc
 
-program_one : (p q : Program) → program_events p ≡ program_events q → p ≡ q
+program_one : (p q : ProgramPhrase) → program_events p ≡ program_events q → p ≡ q
 program_one (Runs a) (Runs b) e = let (agent, end) = agent_one a b [] [] (tail e) in ap Runs agent
 program_one (Signals ns p) (Signals ms q) e = let (names, rest) = names_one ns ms _ _ (tail e) in let more = program_one p q rest in cc
 program_one (Ints is p) (Ints js q) e = let (items, rest) = items_one is js _ _ (tail e) in let more = program_one p q rest in cc
 program_one p q e = cc
 
 -- Programs with the same terms have the same events.
-same_events : (p q : Program) → program p [] ≡ program q [] → program_events p ≡ program_events q
+same_events : (p q : ProgramPhrase) → program p [] ≡ program q [] → program_events p ≡ program_events q
 same_events p q e =
     sym (events_at-program p)
     ∙ ap (λ ts. map (event_at ts) (numbered 0 (program_events p))) e
@@ -146,5 +147,5 @@ same_events p q e =
     ∙ events_at-program q
 
 -- A list of terms is at most one program.
-pub one_program : (p q : Program) → program p [] ≡ program q [] → p ≡ q
+pub one_program : (p q : ProgramPhrase) → program p [] ≡ program q [] → p ≡ q
 one_program p q e = program_one p q (same_events p q e)

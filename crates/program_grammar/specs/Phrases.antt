@@ -4,54 +4,54 @@
 use Rattle.std.specs.Prelude.{ℕ, ℤ, List}
 
 -- x, !x, #x, x>=n, x<=n, x=n
-pub data Token : Type 0 where
-  Asserts : (name : List ℕ) → Token
-  Denies : (name : List ℕ) → Token
-  Clashes : (name : List ℕ) → Token
-  AtLeast : (name : List ℕ) → (number : ℤ) → Token
-  AtMost : (name : List ℕ) → (number : ℤ) → Token
-  Exactly : (name : List ℕ) → (number : ℤ) → Token
+pub data TokenPhrase : Type 0 where
+  On : (name : List ℕ) → TokenPhrase
+  Off : (name : List ℕ) → TokenPhrase
+  Clash : (name : List ℕ) → TokenPhrase
+  AtLeast : (name : List ℕ) → (number : ℤ) → TokenPhrase
+  AtMost : (name : List ℕ) → (number : ℤ) → TokenPhrase
+  Exactly : (name : List ℕ) → (number : ℤ) → TokenPhrase
 
 -- tokens joined by &
-pub data Constraint : Type 0 where
-  One : (token : Token) → Constraint
-  Both : (token : Token) → (more : Constraint) → Constraint
+pub data ConstraintPhrase : Type 0 where
+  One : (token : TokenPhrase) → ConstraintPhrase
+  Both : (token : TokenPhrase) → (more : ConstraintPhrase) → ConstraintPhrase
 
 mutual
   -- skip; c; {a}; if c then u; if c else u; new signal x in u; new int x in l..h in u; hence u; next u; always u;
   -- when c do u; do a watching c; time a on c
-  pub data Unit' : Type 0 where
-    Nothing : Unit'
-    Tell : (constraint : Constraint) → Unit'
-    Braces : (agent : Agent) → Unit'
-    IfThen : (ask : Constraint) → (body : Unit') → Unit'
-    IfElse : (ask : Constraint) → (body : Unit') → Unit'
-    LocalSignal : (name : List ℕ) → (body : Unit') → Unit'
-    LocalInt : (name : List ℕ) → (low high : ℤ) → (body : Unit') → Unit'
-    Henceforth : (body : Unit') → Unit'
-    AtNext : (body : Unit') → Unit'
-    Ever : (body : Unit') → Unit'
-    Whenever : (ask : Constraint) → (body : Unit') → Unit'
-    Watch : (body : Agent) → (stop : Constraint) → Unit'
-    Timed : (body : Agent) → (clock : Constraint) → Unit'
+  pub data UnitPhrase : Type 0 where
+    Skip : UnitPhrase
+    Tell : (constraint : ConstraintPhrase) → UnitPhrase
+    Braces : (agent : AgentPhrase) → UnitPhrase
+    IfThen : (ask : ConstraintPhrase) → (body : UnitPhrase) → UnitPhrase
+    IfElse : (ask : ConstraintPhrase) → (body : UnitPhrase) → UnitPhrase
+    LocalSignal : (name : List ℕ) → (body : UnitPhrase) → UnitPhrase
+    LocalInt : (name : List ℕ) → (low high : ℤ) → (body : UnitPhrase) → UnitPhrase
+    Hence : (body : UnitPhrase) → UnitPhrase
+    Next : (body : UnitPhrase) → UnitPhrase
+    Always : (body : UnitPhrase) → UnitPhrase
+    When : (ask : ConstraintPhrase) → (body : UnitPhrase) → UnitPhrase
+    Watching : (body : AgentPhrase) → (stop : ConstraintPhrase) → UnitPhrase
+    TimeOn : (body : AgentPhrase) → (clock : ConstraintPhrase) → UnitPhrase
 
   -- units joined by ||, which groups to the right
-  pub data Agent : Type 0 where
-    Only : (unit : Unit') → Agent
-    Par : (left : Unit') → (right : Agent) → Agent
+  pub data AgentPhrase : Type 0 where
+    Only : (unit : UnitPhrase) → AgentPhrase
+    Par : (left : UnitPhrase) → (right : AgentPhrase) → AgentPhrase
 
 -- the names of a declaration of signals
-pub data Names : Type 0 where
-  LastName : (name : List ℕ) → Names
-  MoreName : (name : List ℕ) → (more : Names) → Names
+pub data NamesPhrase : Type 0 where
+  LastName : (name : List ℕ) → NamesPhrase
+  MoreName : (name : List ℕ) → (more : NamesPhrase) → NamesPhrase
 
 -- the names of a declaration of integers, each with its least and its greatest value
-pub data Items : Type 0 where
-  LastItem : (name : List ℕ) → (low high : ℤ) → Items
-  MoreItem : (name : List ℕ) → (low high : ℤ) → (more : Items) → Items
+pub data ItemsPhrase : Type 0 where
+  LastItem : (name : List ℕ) → (low high : ℤ) → ItemsPhrase
+  MoreItem : (name : List ℕ) → (low high : ℤ) → (more : ItemsPhrase) → ItemsPhrase
 
 -- declarations, and then an agent
-pub data Program : Type 0 where
-  Runs : (agent : Agent) → Program
-  Signals : (names : Names) → (more : Program) → Program
-  Ints : (items : Items) → (more : Program) → Program
+pub data ProgramPhrase : Type 0 where
+  Runs : (agent : AgentPhrase) → ProgramPhrase
+  Signals : (names : NamesPhrase) → (more : ProgramPhrase) → ProgramPhrase
+  Ints : (items : ItemsPhrase) → (more : ProgramPhrase) → ProgramPhrase

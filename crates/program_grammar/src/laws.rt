@@ -2,7 +2,7 @@
 ghost use Rattle.std.specs.Prelude.{◌≡◌, ◌↔◌, List, [], map};
 ghost use Rattle.program_grammar.specs.Alternatives.{AProgram, Begins};
 ghost use Rattle.program_grammar.specs.Events.{event_at, numbered, program_events, taken};
-ghost use Rattle.program_grammar.specs.Phrases.{Program};
+ghost use Rattle.program_grammar.specs.Phrases.{ProgramPhrase};
 ghost use Rattle.program_grammar.specs.Programs.{BeginsProgram};
 ghost use Rattle.program_grammar.specs.Spelling.{program};
 ghost use Rattle.program_grammar.specs.Terms.{Term};
@@ -17,13 +17,13 @@ pub fn beginnings_law()
 
 /// The grammar is unambiguous: a list of terms is at most one program.
 pub fn unambiguity_law()
-    ensures { (p q : Program) → program p [] ≡ program q [] → p ≡ q }
+    ensures { (p q : ProgramPhrase) → program p [] ≡ program q [] → p ≡ q }
 {}
 
 /// The events of a program take its terms, in order and each once. So its steps, each with the term of its place put
 /// back, are its events, and a pass over the steps that looks its terms up is a pass over the events.
 pub fn places_law()
-    ensures terms { (p : Program) → taken (program_events p) ≡ program p [] }
-    ensures events { (p : Program) →
+    ensures terms { (p : ProgramPhrase) → taken (program_events p) ≡ program p [] }
+    ensures events { (p : ProgramPhrase) →
         map (event_at (program p [])) (numbered 0 (program_events p)) ≡ program_events p }
 {}

@@ -1,7 +1,7 @@
 // The reading machine: a stack of the parts that are still to come, and a list of the steps that were taken.
 ghost use Rattle.std.specs.Prelude.{◌≡◌, ◌++◌, ◌<◌, ◌^◌, IfErr, IfOk, IsTrue, Some, None, List, length, map, reverse, MatchBool, MatchResult, OnOk};
 ghost use Rattle.program_grammar.specs.Machine.{Ends, StopsAt, ended, feed_in, start, trace, word_steps};
-ghost use Rattle.program_grammar.specs.Phrases.{Program};
+ghost use Rattle.program_grammar.specs.Phrases.{ProgramPhrase};
 ghost use Rattle.program_grammar.specs.Programs.{Spells};
 ghost use Rattle.program_grammar.specs.Reading.{AreSteps, IsFaultOf, IsReading};
 ghost use Rattle.program_grammar.specs.Terms.{Term, classes};
@@ -137,7 +137,7 @@ pub fn parse(alloc: Global, language: Language, words: &[Word]) -> Result<Vec<St
     ensures fault { (terms : List Term) → classes terms ≡ words.now
         → IfErr result (IsFaultOf language terms) }
     // A program is read, and no other program has its words.
-    ensures only { (terms : List Term) (p : Program) → classes terms ≡ words.now
+    ensures only { (terms : List Term) (p : ProgramPhrase) → classes terms ≡ words.now
         → Spells language p terms
         → MatchResult result (λ steps. AreSteps p steps.items) (λ fault. fault ≡ ParseFault.Memory) }
 {

@@ -11,7 +11,8 @@ use Rattle.agent_core.specs.declared.node.CellDecl.{CellDecl}
 use Rattle.agent_core.specs.Programs.{CoreProgram}
 use Rattle.agent_core.specs.Facts.{IsAmong}
 use Rattle.core_text.specs.CoreTexts.{name_at}
-use Rattle.program_grammar.specs.Phrases.{Unit', Nothing, Tell, Braces, IfThen, IfElse, LocalSignal, LocalInt, Henceforth, AtNext, Ever, Whenever, Watch, Timed, Agent, Only, Par, Names, LastName, MoreName, Items, LastItem, MoreItem, Program, Runs, Signals, Ints}
+use Rattle.program_grammar.specs.Phrases.{UnitPhrase, Tell, Braces, IfThen, IfElse, LocalSignal, LocalInt, AgentPhrase, Only, Par, NamesPhrase, LastName, MoreName, ItemsPhrase, LastItem, MoreItem, ProgramPhrase, Runs, Signals, Ints}
+use Rattle.program_grammar.specs.Phrases as phrase
 use Rattle.tdcc_reader.specs.Widths.{constraint_width, unit_width, agent_width, names_width, items_width}
 use Rattle.tdcc_reader.specs.Scope.{Known, known, kind_of, double_fault, declared_fault, domain_fault, item_fault, constraint_fault, unit_fault, agent_fault, names_known, names_fault, items_known, items_fault, fault_from, program_fault}
 use Rattle.tdcc_reader.specs.Surfaces.{Placed, placed, Declared, signal, number, cell_view, unit_cells, agent_cells, unit_tree, agent_tree, names_cells, names_scope, items_cells, items_scope, tree_from, program_tree, declared_cells, program_cells}
@@ -67,17 +68,17 @@ module _ (p : CoreProgram) where
 
   -- AGENTS
 
-  abbrev UnitFresh : Unit' → Type 0
+  abbrev UnitFresh : UnitPhrase → Type 0
   UnitFresh u = (locals : List ℕ) (names : List Known) (places : List Placed) (front back : List Declared) (n to : ℕ)
       → map cell_view p.cells ≡ front ++ (unit_cells u ++ back) → length front ≡ n → AreKnown p.declared locals names → unit_fault u names to ≡ None → AreFresh p locals (unit_tree u places n)
 
-  abbrev AgentFresh : Agent → Type 0
+  abbrev AgentFresh : AgentPhrase → Type 0
   AgentFresh a = (locals : List ℕ) (names : List Known) (places : List Placed) (front back : List Declared) (n to : ℕ)
       → map cell_view p.cells ≡ front ++ (agent_cells a ++ back) → length front ≡ n → AreKnown p.declared locals names → agent_fault a names to ≡ None → AreFresh p locals (agent_tree a places n)
 
   mutual
-    unit_fresh : (u : Unit') → UnitFresh u
-    unit_fresh Nothing locals names places front back n to whole long are e = tt
+    unit_fresh : (u : UnitPhrase) → UnitFresh u
+    unit_fresh phrase.Skip locals names places front back n to whole long are e = tt
     unit_fresh (Tell c) locals names places front back n to whole long are e = tt
     unit_fresh (Braces a) locals names places front back n to whole long are e = agent_fresh a locals names places front back n (to + 1) whole long are e
     unit_fresh (IfThen c u) locals names places front back n to whole long are e =
@@ -100,17 +101,17 @@ module _ (p : CoreProgram) where
           unit_fresh u (n ∷ locals) (known x kind.Number ∷ names) (placed x n ∷ places) (front ++ number x l h ∷ []) back (n + 1) (to + 8)
               (whole_more (map cell_view p.cells) front (unit_cells u ++ back) (number x l h) whole) (long_more front (number x l h) n long) (local_known p.declared locals names x kind.Number n are is) inside,
         )
-    unit_fresh (Henceforth u) locals names places front back n to whole long are e = unit_fresh u locals names places front back n (to + 1) whole long are e
-    unit_fresh (AtNext u) locals names places front back n to whole long are e = unit_fresh u locals names places front back n (to + 1) whole long are e
-    unit_fresh (Ever u) locals names places front back n to whole long are e = unit_fresh u locals names places front back n (to + 1) whole long are e
-    unit_fresh (Whenever c u) locals names places front back n to whole long are e =
+    unit_fresh (phrase.Hence u) locals names places front back n to whole long are e = unit_fresh u locals names places front back n (to + 1) whole long are e
+    unit_fresh (phrase.Next u) locals names places front back n to whole long are e = unit_fresh u locals names places front back n (to + 1) whole long are e
+    unit_fresh (phrase.Always u) locals names places front back n to whole long are e = unit_fresh u locals names places front back n (to + 1) whole long are e
+    unit_fresh (phrase.When c u) locals names places front back n to whole long are e =
         unit_fresh u locals names places front back n (to + 1 + constraint_width c + 1) whole long are (none_right (constraint_fault c names (to + 1)) (unit_fault u names (to + 1 + constraint_width c + 1)) e)
-    unit_fresh (Watch a c) locals names places front back n to whole long are e =
+    unit_fresh (phrase.Watching a c) locals names places front back n to whole long are e =
         agent_fresh a locals names places front back n (to + 1) whole long are (none_left (agent_fault a names (to + 1)) (constraint_fault c names (to + 1 + agent_width a + 1)) e)
-    unit_fresh (Timed a c) locals names places front back n to whole long are e =
+    unit_fresh (phrase.TimeOn a c) locals names places front back n to whole long are e =
         agent_fresh a locals names places front back n (to + 1) whole long are (none_left (agent_fault a names (to + 1)) (constraint_fault c names (to + 1 + agent_width a + 1)) e)
 
-    agent_fresh : (a : Agent) → AgentFresh a
+    agent_fresh : (a : AgentPhrase) → AgentFresh a
     agent_fresh (Only u) locals names places front back n to whole long are e = unit_fresh u locals names places front back n to whole long are e
     agent_fresh (Par u a) locals names places front back n to whole long are e = (
       unit_fresh u locals names places front (agent_cells a ++ back) n to (parted (map cell_view p.cells) front (unit_cells u) (agent_cells a) back whole) long are
@@ -155,7 +156,7 @@ module _ (p : CoreProgram) where
           go (inl below) = are.distinct c d less below same
           go (inr most) = let last : d ≡ n = omega arith in is_fresh n [] names x n at are.scope e is c (inl (omega arith)) (same ∙ ap (name_at p.cells) last)
 
-  names_apart : (ns : Names) (names : List Known) (front back : List Declared) (n at : ℕ) → map cell_view p.cells ≡ front ++ (names_cells ns ++ back) → length front ≡ n → Apart n names → names_fault ns names at ≡ None
+  names_apart : (ns : NamesPhrase) (names : List Known) (front back : List Declared) (n at : ℕ) → map cell_view p.cells ≡ front ++ (names_cells ns ++ back) → length front ≡ n → Apart n names → names_fault ns names at ≡ None
       → Apart (n + length (names_cells ns)) (names_known ns names)
   names_apart (LastName x) names front back n at whole long are e = one_apart n names x kind.Signal at are e (name_behind front back (signal x) n whole long)
   names_apart (MoreName x ns) names front back n at whole long are e =
@@ -166,7 +167,7 @@ module _ (p : CoreProgram) where
       (names_apart ns (known x kind.Signal ∷ names) (front ++ signal x ∷ []) back (n + 1) (at + 2) (whole_more (map cell_view p.cells) front (names_cells ns ++ back) (signal x) whole) (long_more front (signal x) n long)
       (one_apart n names x kind.Signal at are here (name_behind front (names_cells ns ++ back) (signal x) n whole long)) behind)
 
-  items_apart : (is : Items) (names : List Known) (front back : List Declared) (n at : ℕ) → map cell_view p.cells ≡ front ++ (items_cells is ++ back) → length front ≡ n → Apart n names → items_fault is names at ≡ None
+  items_apart : (is : ItemsPhrase) (names : List Known) (front back : List Declared) (n at : ℕ) → map cell_view p.cells ≡ front ++ (items_cells is ++ back) → length front ≡ n → Apart n names → items_fault is names at ≡ None
       → Apart (n + length (items_cells is)) (items_known is names)
   items_apart (LastItem x l h) names front back n at whole long are e =
       one_apart n names x kind.Number at are (none_left (declared_fault x names at) (domain_fault l h (at + 2)) e) (number_behind front back x l h n whole long)
@@ -178,7 +179,7 @@ module _ (p : CoreProgram) where
       (items_apart is (known x kind.Number ∷ names) (front ++ number x l h ∷ []) back (n + 1) (at + 6) (whole_more (map cell_view p.cells) front (items_cells is ++ back) (number x l h) whole) (long_more front (number x l h) n long)
       (one_apart n names x kind.Number at are here (number_behind front (items_cells is ++ back) x l h n whole long)) behind)
 
-  fresh_from : (q : Program) (names : List Known) (places : List Placed) (front : List Declared) (n at : ℕ) → map cell_view p.cells ≡ front ++ program_cells q → length front ≡ n → n + length (declared_cells q) ≡ p.declared
+  fresh_from : (q : ProgramPhrase) (names : List Known) (places : List Placed) (front : List Declared) (n at : ℕ) → map cell_view p.cells ≡ front ++ program_cells q → length front ≡ n → n + length (declared_cells q) ≡ p.declared
       → Apart n names → fault_from q names at ≡ None → Distinct p.declared × AreFresh p [] (tree_from q places n)
   fresh_from (Runs a) names places front n at whole long all are e =
       let last : n ≡ p.declared = omega arith in
@@ -198,7 +199,7 @@ module _ (p : CoreProgram) where
       (none_right (items_fault is names (at + 1)) (fault_from q (items_known is names) (at + 1 + items_width is)) e)
 
 -- The names of a program's cells are fresh.
-pub program_fresh : (q : Program) (p : CoreProgram) → map cell_view p.cells ≡ program_cells q → p.declared ≡ length (declared_cells q) → program_fault q ≡ None
+pub program_fresh : (q : ProgramPhrase) (p : CoreProgram) → map cell_view p.cells ≡ program_cells q → p.declared ≡ length (declared_cells q) → program_fault q ≡ None
     → ((c d : ℕ) → c < d → d < p.declared → name_at p.cells c ≡ name_at p.cells d → ⊥) × AreFresh p [] (program_tree q)
 program_fresh q p whole many e =
     fresh_from p q [] [] [] 0 0 whole refl (omega arith) (none_apart p) e

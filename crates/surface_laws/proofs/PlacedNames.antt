@@ -9,7 +9,7 @@ use Rattle.token_system.specs.declared.cell.Kind.TheVariants as kind
 use Rattle.agent_core.specs.declared.node.CellDecl.{CellDecl}
 use Rattle.agent_core.specs.Programs.{CoreProgram}
 use Rattle.agent_core.specs.Facts.{IsAmong}
-use Rattle.program_grammar.specs.Phrases.{Names, LastName, MoreName, Items, LastItem, MoreItem}
+use Rattle.program_grammar.specs.Phrases.{NamesPhrase, LastName, MoreName, ItemsPhrase, LastItem, MoreItem}
 use Rattle.tdcc_reader.specs.Scope.{Known, known, kind_of, declared_fault, domain_fault, item_fault, names_known, items_fault, items_known}
 use Rattle.tdcc_reader.specs.Surfaces.{Placed, placed, cell_of, Declared, declared, signal, number, cell_view, names_cells, names_scope, items_cells, items_scope}
 use Rattle.tdcc_reader.proofs.Asks.{none_left, none_right}
@@ -85,7 +85,7 @@ whole_more cs front more d e = e ∙ sym (append_assoc front (d ∷ []) more)
 pub long_more : (front : List Declared) (d : Declared) (n : ℕ) → length front ≡ n → length (front ++ d ∷ []) ≡ n + 1
 long_more front d n e = let l = length-append front (d ∷ []) in omega arith
 
-pub names_placed : (ns : Names) (p : CoreProgram) (names : List Known) (places : List Placed) (front back : List Declared) (n : ℕ)
+pub names_placed : (ns : NamesPhrase) (p : CoreProgram) (names : List Known) (places : List Placed) (front back : List Declared) (n : ℕ)
     → map cell_view p.cells ≡ front ++ (names_cells ns ++ back) → length front ≡ n → n + length (names_cells ns) ≤ p.declared → ArePlaced p [] names places
     → ArePlaced p [] (names_known ns names) (names_scope ns places n)
 names_placed (LastName x) p names places front back n whole long few are = declared_placed p names places front back x (signal x) kind.Signal n whole long (omega arith) refl are
@@ -113,7 +113,7 @@ number_kind form x l h names at fit e =
     let is : is_cell kind.Number l h ≡ true = all_three (is_bound l) (is_bound h) (int_le l h) fit.low_fit fit.high_fit (ordered l h o) in
     ap (λ (b : Bool). (if b then declared x kind.Number l h else signal x).kind) is
 
-pub items_placed : (form : TextForm) (is : Items) (p : CoreProgram) (names : List Known) (places : List Placed) (front back : List Declared) (n at : ℕ)
+pub items_placed : (form : TextForm) (is : ItemsPhrase) (p : CoreProgram) (names : List Known) (places : List Placed) (front back : List Declared) (n at : ℕ)
     → map cell_view p.cells ≡ front ++ (items_cells is ++ back) → length front ≡ n → n + length (items_cells is) ≤ p.declared → ItemsFit form is → items_fault is names at ≡ None → ArePlaced p [] names places
     → ArePlaced p [] (items_known is names) (items_scope is places n)
 items_placed form (LastItem x l h) p names places front back n at whole long few fit e are =

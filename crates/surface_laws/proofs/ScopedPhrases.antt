@@ -11,7 +11,8 @@ use Rattle.token_system.specs.declared.cell.Token.TheVariants as tokens
 use Rattle.agent_core.specs.Agents.{Ask}
 use Rattle.agent_core.specs.Programs.{CoreProgram}
 use Rattle.agent_core.specs.Facts.{IsInScope, AreInScope, IsConstraint}
-use Rattle.program_grammar.specs.Phrases.{Token, Asserts, Denies, Clashes, AtLeast, AtMost, Exactly, Constraint, One, Both, Unit', Nothing, Tell, Braces, IfThen, IfElse, LocalSignal, LocalInt, Henceforth, AtNext, Ever, Whenever, Watch, Timed, Agent, Only, Par, Program, Runs, Signals, Ints}
+use Rattle.program_grammar.specs.Phrases.{TokenPhrase, AtLeast, AtMost, Exactly, ConstraintPhrase, One, Both, UnitPhrase, Tell, Braces, IfThen, IfElse, LocalSignal, LocalInt, AgentPhrase, Only, Par, ProgramPhrase, Runs, Signals, Ints}
+use Rattle.program_grammar.specs.Phrases as phrase
 use Rattle.tdcc_reader.specs.declared.dialect.Dialect.{Dialect}
 use Rattle.tdcc_reader.specs.Widths.{token_width, constraint_width, unit_width, agent_width, names_width, items_width}
 use Rattle.tdcc_reader.specs.Limits.{first, constraint_limit, unit_limit, agent_limit, limit_from, program_limit}
@@ -46,10 +47,10 @@ in_scope p locals cell k t is e = record {
   fits = (let f : fits_kind is.decl.cell.kind t ≡ true = ap (λ (j : Kind). fits_kind j t) is.kind ∙ e in f);
 }
 
-token_scoped : (t : Token) (p : CoreProgram) (locals : List ℕ) (names : List Known) (places : List Placed) (at : ℕ) → ArePlaced p locals names places → TokenFit t → token_fault t names at ≡ None → AreInScope p locals (token_ask places t)
-token_scoped (Asserts x) p locals names places at are fit e = (in_scope p locals (cell_of places x) kind.Signal tokens.On (are.each x kind.Signal (signal_known (kind_of names x) at e)) refl, tt)
-token_scoped (Denies x) p locals names places at are fit e = (in_scope p locals (cell_of places x) kind.Signal tokens.Off (are.each x kind.Signal (signal_known (kind_of names x) (at + 1) e)) refl, tt)
-token_scoped (Clashes x) p locals names places at are fit e = let (k, is) = any_known (kind_of names x) (at + 1) e in (in_scope p locals (cell_of places x) k tokens.Clash (are.each x k is) refl, tt)
+token_scoped : (t : TokenPhrase) (p : CoreProgram) (locals : List ℕ) (names : List Known) (places : List Placed) (at : ℕ) → ArePlaced p locals names places → TokenFit t → token_fault t names at ≡ None → AreInScope p locals (token_ask places t)
+token_scoped (phrase.On x) p locals names places at are fit e = (in_scope p locals (cell_of places x) kind.Signal tokens.On (are.each x kind.Signal (signal_known (kind_of names x) at e)) refl, tt)
+token_scoped (phrase.Off x) p locals names places at are fit e = (in_scope p locals (cell_of places x) kind.Signal tokens.Off (are.each x kind.Signal (signal_known (kind_of names x) (at + 1) e)) refl, tt)
+token_scoped (phrase.Clash x) p locals names places at are fit e = let (k, is) = any_known (kind_of names x) (at + 1) e in (in_scope p locals (cell_of places x) k tokens.Clash (are.each x k is) refl, tt)
 token_scoped (AtLeast x n) p locals names places at are fit e = (in_scope p locals (cell_of places x) kind.Number (tokens.AtLeast n) (are.each x kind.Number (number_known (kind_of names x) at e)) fit, tt)
 token_scoped (AtMost x n) p locals names places at are fit e = (in_scope p locals (cell_of places x) kind.Number (tokens.AtMost n) (are.each x kind.Number (number_known (kind_of names x) at e)) fit, tt)
 token_scoped (Exactly x n) p locals names places at are fit e =
@@ -60,30 +61,30 @@ scoped-append : (p : CoreProgram) (locals : List ℕ) (a b : Ask) → AreInScope
 scoped-append p locals [] b x y = y
 scoped-append p locals (t ∷ a) b (h, x) y = (h, scoped-append p locals a b x y)
 
-tokens_scoped : (c : Constraint) (p : CoreProgram) (locals : List ℕ) (names : List Known) (places : List Placed) (at : ℕ) → ArePlaced p locals names places → ConstraintFit c → constraint_fault c names at ≡ None → AreInScope p locals (ask_of places c)
+tokens_scoped : (c : ConstraintPhrase) (p : CoreProgram) (locals : List ℕ) (names : List Known) (places : List Placed) (at : ℕ) → ArePlaced p locals names places → ConstraintFit c → constraint_fault c names at ≡ None → AreInScope p locals (ask_of places c)
 tokens_scoped (One t) p locals names places at are fit e = token_scoped t p locals names places at are fit e
 tokens_scoped (Both t c) p locals names places at are fit e =
     scoped-append p locals (token_ask places t) (ask_of places c)
     (token_scoped t p locals names places at are fit.0 (none_left (token_fault t names at) (constraint_fault c names (at + token_width t + 1)) e))
     (tokens_scoped c p locals names places (at + token_width t + 1) are fit.1 (none_right (token_fault t names at) (constraint_fault c names (at + token_width t + 1)) e))
 
-constraint_scoped : (dialect : Dialect) (c : Constraint) (p : CoreProgram) (locals : List ℕ) (names : List Known) (places : List Placed) (at to : ℕ) → ArePlaced p locals names places → ConstraintFit c → constraint_limit dialect c 0 at ≡ None → constraint_fault c names to ≡ None → IsConstraint p locals (ask_of places c)
+constraint_scoped : (dialect : Dialect) (c : ConstraintPhrase) (p : CoreProgram) (locals : List ℕ) (names : List Known) (places : List Placed) (at to : ℕ) → ArePlaced p locals names places → ConstraintFit c → constraint_limit dialect c 0 at ≡ None → constraint_fault c names to ≡ None → IsConstraint p locals (ask_of places c)
 constraint_scoped dialect c p locals names places at to are fit l e =
     let (some, few) = ask_kept dialect places c at l in record { some = some; few = few; tokens = tokens_scoped c p locals names places to are fit e }
 
 -- the cells of a unit, with those in front and those behind
-abbrev UnitScoped : TextForm → Dialect → Unit' → Type 0
+abbrev UnitScoped : TextForm → Dialect → UnitPhrase → Type 0
 UnitScoped form dialect u = (p : CoreProgram) (locals : List ℕ) (names : List Known) (places : List Placed) (front back : List Declared) (n d at to : ℕ)
     → map cell_view p.cells ≡ front ++ (unit_cells u ++ back) → length front ≡ n → ArePlaced p locals names places → UnitFit form u → unit_limit dialect u d at ≡ None → unit_fault u names to ≡ None
     → Scoped p locals (unit_tree u places n)
 
-abbrev AgentScoped : TextForm → Dialect → Agent → Type 0
+abbrev AgentScoped : TextForm → Dialect → AgentPhrase → Type 0
 AgentScoped form dialect a = (p : CoreProgram) (locals : List ℕ) (names : List Known) (places : List Placed) (front back : List Declared) (n d at to : ℕ)
     → map cell_view p.cells ≡ front ++ (agent_cells a ++ back) → length front ≡ n → ArePlaced p locals names places → AgentFit form a → agent_limit dialect a d at ≡ None → agent_fault a names to ≡ None
     → Scoped p locals (agent_tree a places n)
 
 -- an ask and a body behind one term
-asked : (form : TextForm) (dialect : Dialect) (c : Constraint) (u : Unit') → UnitScoped form dialect u → (p : CoreProgram) (locals : List ℕ) (names : List Known) (places : List Placed) (front back : List Declared) (n d at to : ℕ)
+asked : (form : TextForm) (dialect : Dialect) (c : ConstraintPhrase) (u : UnitPhrase) → UnitScoped form dialect u → (p : CoreProgram) (locals : List ℕ) (names : List Known) (places : List Placed) (front back : List Declared) (n d at to : ℕ)
     → map cell_view p.cells ≡ front ++ (unit_cells u ++ back) → length front ≡ n → ArePlaced p locals names places → ConstraintFit c × UnitFit form u
     → first (constraint_limit dialect c 0 (at + 1)) (unit_limit dialect u (d + 1) (at + 1 + constraint_width c + 1)) ≡ None
     → first (constraint_fault c names (to + 1)) (unit_fault u names (to + 1 + constraint_width c + 1)) ≡ None
@@ -96,7 +97,7 @@ asked form dialect c u ih p locals names places front back n d at to whole long 
 )
 
 -- an agent and a constraint behind one term
-ended : (form : TextForm) (dialect : Dialect) (a : Agent) (c : Constraint) → AgentScoped form dialect a → (p : CoreProgram) (locals : List ℕ) (names : List Known) (places : List Placed) (front back : List Declared) (n d at to : ℕ)
+ended : (form : TextForm) (dialect : Dialect) (a : AgentPhrase) (c : ConstraintPhrase) → AgentScoped form dialect a → (p : CoreProgram) (locals : List ℕ) (names : List Known) (places : List Placed) (front back : List Declared) (n d at to : ℕ)
     → map cell_view p.cells ≡ front ++ (agent_cells a ++ back) → length front ≡ n → ArePlaced p locals names places → AgentFit form a × ConstraintFit c
     → first (agent_limit dialect a (d + 1) (at + 1)) (constraint_limit dialect c 0 (at + 1 + agent_width a + 1)) ≡ None
     → first (agent_fault a names (to + 1)) (constraint_fault c names (to + 1 + agent_width a + 1)) ≡ None
@@ -119,8 +120,8 @@ pub longer : (front xs : List Declared) (n : ℕ) → length front ≡ n → len
 longer front xs n long = length-append front xs ∙ ap (λ k. k + length xs) long
 
 mutual
-  unit_scoped : (form : TextForm) (dialect : Dialect) (u : Unit') → UnitScoped form dialect u
-  unit_scoped form dialect Nothing p locals names places front back n d at to whole long are fit l e = tt
+  unit_scoped : (form : TextForm) (dialect : Dialect) (u : UnitPhrase) → UnitScoped form dialect u
+  unit_scoped form dialect phrase.Skip p locals names places front back n d at to whole long are fit l e = tt
   unit_scoped form dialect (Tell c) p locals names places front back n d at to whole long are fit l e = constraint_scoped dialect c p locals names places at to are fit (inner dialect d at (constraint_limit dialect c 0 at) l) e
   unit_scoped form dialect (Braces a) p locals names places front back n d at to whole long are fit l e =
       agent_scoped form dialect a p locals names places front back n (d + 1) (at + 1) (to + 1) whole long are fit (inner dialect d at (agent_limit dialect a (d + 1) (at + 1)) l) e
@@ -139,20 +140,20 @@ mutual
       (whole_more (map cell_view p.cells) front (unit_cells u ++ back) (number x low high) whole) (long_more front (number x low high) n long)
       (local_placed p locals names places front (unit_cells u ++ back) x (number x low high) kind.Number n whole long is are) fit.1
       (inner dialect d at (unit_limit dialect u (d + 1) (at + 8)) l) (none_right (item_fault x low high names (to + 2)) (unit_fault u (known x kind.Number ∷ names) (to + 8)) e)
-  unit_scoped form dialect (Henceforth u) p locals names places front back n d at to whole long are fit l e =
+  unit_scoped form dialect (phrase.Hence u) p locals names places front back n d at to whole long are fit l e =
       unit_scoped form dialect u p locals names places front back n (d + 1) (at + 1) (to + 1) whole long are fit (inner dialect d at (unit_limit dialect u (d + 1) (at + 1)) l) e
-  unit_scoped form dialect (AtNext u) p locals names places front back n d at to whole long are fit l e =
+  unit_scoped form dialect (phrase.Next u) p locals names places front back n d at to whole long are fit l e =
       unit_scoped form dialect u p locals names places front back n (d + 1) (at + 1) (to + 1) whole long are fit (inner dialect d at (unit_limit dialect u (d + 1) (at + 1)) l) e
-  unit_scoped form dialect (Ever u) p locals names places front back n d at to whole long are fit l e =
+  unit_scoped form dialect (phrase.Always u) p locals names places front back n d at to whole long are fit l e =
       unit_scoped form dialect u p locals names places front back n (d + 1) (at + 1) (to + 1) whole long are fit (inner dialect d at (unit_limit dialect u (d + 1) (at + 1)) l) e
-  unit_scoped form dialect (Whenever c u) p locals names places front back n d at to whole long are fit l e =
+  unit_scoped form dialect (phrase.When c u) p locals names places front back n d at to whole long are fit l e =
       asked form dialect c u (unit_scoped form dialect u) p locals names places front back n d at to whole long are fit (inner dialect d at (first (constraint_limit dialect c 0 (at + 1)) (unit_limit dialect u (d + 1) (at + 1 + constraint_width c + 1))) l) e
-  unit_scoped form dialect (Watch a c) p locals names places front back n d at to whole long are fit l e =
+  unit_scoped form dialect (phrase.Watching a c) p locals names places front back n d at to whole long are fit l e =
       ended form dialect a c (agent_scoped form dialect a) p locals names places front back n d at to whole long are fit (inner dialect d at (first (agent_limit dialect a (d + 1) (at + 1)) (constraint_limit dialect c 0 (at + 1 + agent_width a + 1))) l) e
-  unit_scoped form dialect (Timed a c) p locals names places front back n d at to whole long are fit l e =
+  unit_scoped form dialect (phrase.TimeOn a c) p locals names places front back n d at to whole long are fit l e =
       ended form dialect a c (agent_scoped form dialect a) p locals names places front back n d at to whole long are fit (inner dialect d at (first (agent_limit dialect a (d + 1) (at + 1)) (constraint_limit dialect c 0 (at + 1 + agent_width a + 1))) l) e
 
-  agent_scoped : (form : TextForm) (dialect : Dialect) (a : Agent) → AgentScoped form dialect a
+  agent_scoped : (form : TextForm) (dialect : Dialect) (a : AgentPhrase) → AgentScoped form dialect a
   agent_scoped form dialect (Only u) p locals names places front back n d at to whole long are fit l e = unit_scoped form dialect u p locals names places front back n d at to whole long are fit l e
   agent_scoped form dialect (Par u a) p locals names places front back n d at to whole long are fit l e = (
     unit_scoped form dialect u p locals names places front (agent_cells a ++ back) n d at to (parted (map cell_view p.cells) front (unit_cells u) (agent_cells a) back whole) long are
@@ -169,7 +170,7 @@ few_first n b xs ys h = let l = length-append xs ys in omega arith
 few_then : (n b : ℕ) (xs ys : List Declared) → n + length (xs ++ ys) ≤ b → n + length xs + length ys ≤ b
 few_then n b xs ys h = let l = length-append xs ys in omega arith
 
-scoped_from : (form : TextForm) (dialect : Dialect) (q : Program) (p : CoreProgram) (names : List Known) (places : List Placed) (front : List Declared) (n at to : ℕ)
+scoped_from : (form : TextForm) (dialect : Dialect) (q : ProgramPhrase) (p : CoreProgram) (names : List Known) (places : List Placed) (front : List Declared) (n at to : ℕ)
     → map cell_view p.cells ≡ front ++ program_cells q → length front ≡ n → n + length (declared_cells q) ≤ p.declared → ArePlaced p [] names places
     → ProgramFit form q → limit_from dialect q at ≡ None → fault_from q names to ≡ None → Scoped p [] (tree_from q places n)
 scoped_from form dialect (Runs a) p names places front n at to whole long few are fit l e =
@@ -188,6 +189,6 @@ scoped_from form dialect (Ints is q) p names places front n at to whole long few
     (none_right (items_fault is names (to + 1)) (fault_from q (items_known is names) (to + 1 + items_width is)) e)
 
 -- Each constraint of the program is in scope.
-pub program_scoped : (form : TextForm) (dialect : Dialect) (q : Program) (p : CoreProgram) → map cell_view p.cells ≡ program_cells q → p.declared ≡ length (declared_cells q) → ProgramFit form q → program_limit dialect q ≡ None → program_fault q ≡ None
+pub program_scoped : (form : TextForm) (dialect : Dialect) (q : ProgramPhrase) (p : CoreProgram) → map cell_view p.cells ≡ program_cells q → p.declared ≡ length (declared_cells q) → ProgramFit form q → program_limit dialect q ≡ None → program_fault q ≡ None
     → Scoped p [] (program_tree q)
 program_scoped form dialect q p whole many fit l e = scoped_from form dialect q p [] [] [] 0 0 0 whole refl (omega arith) (none_placed p) fit l e

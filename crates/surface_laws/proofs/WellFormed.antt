@@ -4,7 +4,7 @@ use Rattle.std.specs.Prelude.{map, slice_get, option_map}
 use Rattle.std.proofs.lemmas.List.{length-map}
 use Rattle.std.proofs.lemmas.Option.{slice_get-map}
 use Rattle.program_lexemes.specs.declared.bytes.TextForm.TheVariants as forms
-use Rattle.program_grammar.specs.Phrases.{Program}
+use Rattle.program_grammar.specs.Phrases.{ProgramPhrase}
 use Rattle.agent_core.specs.declared.node.CellDecl.{CellDecl}
 use Rattle.agent_core.specs.Facts.{count_up}
 use Rattle.core_text.specs.GoodNames.{IsName}
@@ -23,11 +23,11 @@ use Rattle.surface_laws.proofs.CellNames.{program_named, named_at}
 use Rattle.surface_laws.proofs.FreshNames.{program_fresh}
 
 -- The program of an accepted text is fit.
-pub accepted_fit : (dialect : Dialect) (text : List ℕ) (q : Program) → Accepts dialect text q → ProgramFit (text_form dialect) q
+pub accepted_fit : (dialect : Dialect) (text : List ℕ) (q : ProgramPhrase) → Accepts dialect text q → ProgramFit (text_form dialect) q
 accepted_fit dialect text q a = fit_program (text_form dialect) q a.terms a.is.spells.spelled (terms_fit dialect text a.terms a.has)
 
 -- so many cells are local
-pub local_many : (q : Program) (s : SurfaceProgram) → IsSurfaceOf q s → length s.cells ≡ s.declared + length (local_cells q)
+pub local_many : (q : ProgramPhrase) (s : SurfaceProgram) → IsSurfaceOf q s → length s.cells ≡ s.declared + length (local_cells q)
 local_many q s is =
     let l = length-map s.cells cell_view in
     let c : length (map cell_view s.cells) ≡ length (declared_cells q ++ local_cells q) = ap length (is.cells ∙ cells_parted q) in
@@ -35,7 +35,7 @@ local_many q s is =
     let d = is.declared in omega arith
 
 -- each cell has a name that can be written
-cells_named : (dialect : Dialect) (text : List ℕ) (q : Program) (s : SurfaceProgram) → Accepts dialect text q → IsSurfaceOf q s → (n : ℕ) (d : CellDecl) → slice_get s.cells n ≡ Some d → IsName (text_form dialect) d.name
+cells_named : (dialect : Dialect) (text : List ℕ) (q : ProgramPhrase) (s : SurfaceProgram) → Accepts dialect text q → IsSurfaceOf q s → (n : ℕ) (d : CellDecl) → slice_get s.cells n ≡ Some d → IsName (text_form dialect) d.name
 cells_named dialect text q s a is n d e =
     named_at (text_form dialect) (program_cells q) n (cell_view d) (program_named (text_form dialect) q (accepted_fit dialect text q a))
     (ap (λ (l : List Declared). slice_get l n) (sym is.cells) ∙ slice_get-map cell_view s.cells n ∙ ap (option_map cell_view) e)

@@ -3,7 +3,8 @@ use Rattle.std.proofs.Common.{◌≡◌, ℕ, ◌+◌, ◌*◌, ◌≤◌, List,
 use Rattle.std.specs.Prelude.{All, nat_lt, if◌then◌else◌}
 use Rattle.std.proofs.lemmas.Bool.{ltb-false}
 use Rattle.std.proofs.lemmas.List.Elements.{All-cons, All-append, All-nil}
-use Rattle.program_grammar.specs.Phrases.{Token, Asserts, Denies, Clashes, AtLeast, AtMost, Exactly, Constraint, One, Both, Unit', Nothing, Tell, Braces, IfThen, IfElse, LocalSignal, LocalInt, Henceforth, AtNext, Ever, Whenever, Watch, Timed, Agent, Only, Par, Program, Runs, Signals, Ints}
+use Rattle.program_grammar.specs.Phrases.{TokenPhrase, AtLeast, AtMost, Exactly, ConstraintPhrase, One, Both, UnitPhrase, Tell, Braces, IfThen, IfElse, LocalSignal, LocalInt, AgentPhrase, Only, Par, ProgramPhrase, Runs, Signals, Ints}
+use Rattle.program_grammar.specs.Phrases as phrase
 use Rattle.tdcc_reader.specs.declared.dialect.Dialect.{Dialect}
 use Rattle.tdcc_reader.specs.declared.dialect.Dialect.TheVariants as dialects
 use Rattle.tdcc_reader.specs.declared.limits.Limit.{Limit}
@@ -53,15 +54,15 @@ two_counted : (dialect : Dialect) → IsCounted dialect 2 (equation_count dialec
 two_counted dialects.Program = (lit≤ tt, λ n. omega arith)
 two_counted dialects.Core = (lit≤ tt, λ n. omega arith)
 
-token_counted : (dialect : Dialect) (s : List Placed) (t : Token) → IsCounted dialect (length (token_ask s t)) (token_count dialect t)
-token_counted dialect s (Asserts x) = one_counted dialect
-token_counted dialect s (Denies x) = one_counted dialect
-token_counted dialect s (Clashes x) = one_counted dialect
+token_counted : (dialect : Dialect) (s : List Placed) (t : TokenPhrase) → IsCounted dialect (length (token_ask s t)) (token_count dialect t)
+token_counted dialect s (phrase.On x) = one_counted dialect
+token_counted dialect s (phrase.Off x) = one_counted dialect
+token_counted dialect s (phrase.Clash x) = one_counted dialect
 token_counted dialect s (AtLeast x n) = one_counted dialect
 token_counted dialect s (AtMost x n) = one_counted dialect
 token_counted dialect s (Exactly x n) = two_counted dialect
 
-constraint_some : (dialect : Dialect) (s : List Placed) (c : Constraint) (n at : ℕ) → constraint_limit dialect c n at ≡ None → (1 ≤ length (ask_of s c)) × (length (ask_of s c) + forms_most dialect n ≤ 16)
+constraint_some : (dialect : Dialect) (s : List Placed) (c : ConstraintPhrase) (n at : ℕ) → constraint_limit dialect c n at ≡ None → (1 ≤ length (ask_of s c)) × (length (ask_of s c) + forms_most dialect n ≤ 16)
 constraint_some dialect s (One t) n at e =
     let m = most_forms dialect (n + token_count dialect t) (many_kept dialect (n + token_count dialect t) at e) in
     let (x, y) = token_counted dialect s t in let z = y n in (x, omega arith)
@@ -70,10 +71,10 @@ constraint_some dialect s (Both t c) n at e =
     let (v, w) = constraint_some dialect s c (n + token_count dialect t) (at + token_width t + 1) (none_right (many_limit dialect (n + token_count dialect t) at) (constraint_limit dialect c (n + token_count dialect t) (at + token_width t + 1)) e) in
     let l = length-append (token_ask s t) (ask_of s c) in (omega arith, omega arith)
 
-pub ask_kept : (dialect : Dialect) (s : List Placed) (c : Constraint) (at : ℕ) → constraint_limit dialect c 0 at ≡ None → IsAsk (ask_of s c)
+pub ask_kept : (dialect : Dialect) (s : List Placed) (c : ConstraintPhrase) (at : ℕ) → constraint_limit dialect c 0 at ≡ None → IsAsk (ask_of s c)
 ask_kept dialect s c at e = let (x, y) = constraint_some dialect s c 0 at e in (x, omega arith)
 
-abbrev UnitWhole : Dialect → Unit' → Type 0
+abbrev UnitWhole : Dialect → UnitPhrase → Type 0
 UnitWhole dialect u = (s : List Placed) (m d at : ℕ) → unit_limit dialect u d at ≡ None → All IsWhole (drafts (unit_tree u s m))
 
 -- behind the limit on depth
@@ -81,8 +82,8 @@ pub inner : (dialect : Dialect) (d at : ℕ) (g : Option Limit) → first (deep_
 inner dialect d at g e = none_right (deep_limit dialect d at) g e
 
 mutual
-  unit_whole : (dialect : Dialect) (u : Unit') → UnitWhole dialect u
-  unit_whole dialect Nothing s m d at e = All-cons IsWhole (entry kind.Skip []) [] tt (All-nil IsWhole)
+  unit_whole : (dialect : Dialect) (u : UnitPhrase) → UnitWhole dialect u
+  unit_whole dialect phrase.Skip s m d at e = All-cons IsWhole (entry kind.Skip []) [] tt (All-nil IsWhole)
   unit_whole dialect (Tell c) s m d at e = All-cons IsWhole (entry kind.Tell (ask_of s c)) [] (ask_kept dialect s c at (inner dialect d at (constraint_limit dialect c 0 at) e)) (All-nil IsWhole)
   unit_whole dialect (Braces a) s m d at e = agent_whole dialect a s m (d + 1) (at + 1) (inner dialect d at (agent_limit dialect a (d + 1) (at + 1)) e)
   unit_whole dialect (IfThen c u) s m d at e =
@@ -95,23 +96,23 @@ mutual
       (unit_whole dialect u s m (d + 1) (at + 1 + constraint_width c + 1) (none_right (constraint_limit dialect c 0 (at + 1)) (unit_limit dialect u (d + 1) (at + 1 + constraint_width c + 1)) i))
   unit_whole dialect (LocalSignal x u) s m d at e = All-cons IsWhole (entry (kind.New m) []) (drafts (unit_tree u (placed x m ∷ s) (m + 1))) tt (unit_whole dialect u (placed x m ∷ s) (m + 1) (d + 1) (at + 4) (inner dialect d at (unit_limit dialect u (d + 1) (at + 4)) e))
   unit_whole dialect (LocalInt x l h u) s m d at e = All-cons IsWhole (entry (kind.New m) []) (drafts (unit_tree u (placed x m ∷ s) (m + 1))) tt (unit_whole dialect u (placed x m ∷ s) (m + 1) (d + 1) (at + 8) (inner dialect d at (unit_limit dialect u (d + 1) (at + 8)) e))
-  unit_whole dialect (Henceforth u) s m d at e = All-cons IsWhole (entry kind.Hence []) (drafts (unit_tree u s m)) tt (unit_whole dialect u s m (d + 1) (at + 1) (inner dialect d at (unit_limit dialect u (d + 1) (at + 1)) e))
-  unit_whole dialect (AtNext u) s m d at e = All-cons IsWhole (entry kind.Next []) (drafts (unit_tree u s m)) tt (unit_whole dialect u s m (d + 1) (at + 1) (inner dialect d at (unit_limit dialect u (d + 1) (at + 1)) e))
-  unit_whole dialect (Ever u) s m d at e = All-cons IsWhole (entry kind.Always []) (drafts (unit_tree u s m)) tt (unit_whole dialect u s m (d + 1) (at + 1) (inner dialect d at (unit_limit dialect u (d + 1) (at + 1)) e))
-  unit_whole dialect (Whenever c u) s m d at e =
+  unit_whole dialect (phrase.Hence u) s m d at e = All-cons IsWhole (entry kind.Hence []) (drafts (unit_tree u s m)) tt (unit_whole dialect u s m (d + 1) (at + 1) (inner dialect d at (unit_limit dialect u (d + 1) (at + 1)) e))
+  unit_whole dialect (phrase.Next u) s m d at e = All-cons IsWhole (entry kind.Next []) (drafts (unit_tree u s m)) tt (unit_whole dialect u s m (d + 1) (at + 1) (inner dialect d at (unit_limit dialect u (d + 1) (at + 1)) e))
+  unit_whole dialect (phrase.Always u) s m d at e = All-cons IsWhole (entry kind.Always []) (drafts (unit_tree u s m)) tt (unit_whole dialect u s m (d + 1) (at + 1) (inner dialect d at (unit_limit dialect u (d + 1) (at + 1)) e))
+  unit_whole dialect (phrase.When c u) s m d at e =
       let i = inner dialect d at (first (constraint_limit dialect c 0 (at + 1)) (unit_limit dialect u (d + 1) (at + 1 + constraint_width c + 1))) e in
       All-cons IsWhole (entry kind.When (ask_of s c)) (drafts (unit_tree u s m)) (ask_kept dialect s c (at + 1) (none_left (constraint_limit dialect c 0 (at + 1)) (unit_limit dialect u (d + 1) (at + 1 + constraint_width c + 1)) i))
       (unit_whole dialect u s m (d + 1) (at + 1 + constraint_width c + 1) (none_right (constraint_limit dialect c 0 (at + 1)) (unit_limit dialect u (d + 1) (at + 1 + constraint_width c + 1)) i))
-  unit_whole dialect (Watch a c) s m d at e =
+  unit_whole dialect (phrase.Watching a c) s m d at e =
       let i = inner dialect d at (first (agent_limit dialect a (d + 1) (at + 1)) (constraint_limit dialect c 0 (at + 1 + agent_width a + 1))) e in
       All-cons IsWhole (entry kind.Watch (ask_of s c)) (drafts (agent_tree a s m)) (ask_kept dialect s c (at + 1 + agent_width a + 1) (none_right (agent_limit dialect a (d + 1) (at + 1)) (constraint_limit dialect c 0 (at + 1 + agent_width a + 1)) i))
       (agent_whole dialect a s m (d + 1) (at + 1) (none_left (agent_limit dialect a (d + 1) (at + 1)) (constraint_limit dialect c 0 (at + 1 + agent_width a + 1)) i))
-  unit_whole dialect (Timed a c) s m d at e =
+  unit_whole dialect (phrase.TimeOn a c) s m d at e =
       let i = inner dialect d at (first (agent_limit dialect a (d + 1) (at + 1)) (constraint_limit dialect c 0 (at + 1 + agent_width a + 1))) e in
       All-cons IsWhole (entry kind.Time (ask_of s c)) (drafts (agent_tree a s m)) (ask_kept dialect s c (at + 1 + agent_width a + 1) (none_right (agent_limit dialect a (d + 1) (at + 1)) (constraint_limit dialect c 0 (at + 1 + agent_width a + 1)) i))
       (agent_whole dialect a s m (d + 1) (at + 1) (none_left (agent_limit dialect a (d + 1) (at + 1)) (constraint_limit dialect c 0 (at + 1 + agent_width a + 1)) i))
 
-  agent_whole : (dialect : Dialect) (a : Agent) (s : List Placed) (m d at : ℕ) → agent_limit dialect a d at ≡ None → All IsWhole (drafts (agent_tree a s m))
+  agent_whole : (dialect : Dialect) (a : AgentPhrase) (s : List Placed) (m d at : ℕ) → agent_limit dialect a d at ≡ None → All IsWhole (drafts (agent_tree a s m))
   agent_whole dialect (Only u) s m d at e = unit_whole dialect u s m d at e
   agent_whole dialect (Par u a) s m d at e =
       All-cons IsWhole (entry (kind.Par (1 + length (drafts (unit_tree u s m)))) []) (drafts (unit_tree u s m) ++ drafts (agent_tree a s (m + length (unit_cells u)))) tt
@@ -119,11 +120,11 @@ mutual
       (unit_whole dialect u s m d at (none_left (unit_limit dialect u d at) (agent_limit dialect a d (at + unit_width u + 1)) e))
       (agent_whole dialect a s (m + length (unit_cells u)) d (at + unit_width u + 1) (none_right (unit_limit dialect u d at) (agent_limit dialect a d (at + unit_width u + 1)) e)))
 
-whole_from : (dialect : Dialect) (p : Program) (s : List Placed) (m at : ℕ) → limit_from dialect p at ≡ None → All IsWhole (drafts (tree_from p s m))
+whole_from : (dialect : Dialect) (p : ProgramPhrase) (s : List Placed) (m at : ℕ) → limit_from dialect p at ≡ None → All IsWhole (drafts (tree_from p s m))
 whole_from dialect (Runs a) s m at e = agent_whole dialect a s m 0 at e
 whole_from dialect (Signals ns p) s m at e = whole_from dialect p (names_scope ns s m) (m + length (names_cells ns)) (at + 1 + names_width ns) e
 whole_from dialect (Ints is p) s m at e = whole_from dialect p (items_scope is s m) (m + length (items_cells is)) (at + 1 + items_width is) e
 
 -- The drafts of a program within the limits have such asks.
-pub program_whole : (dialect : Dialect) (p : Program) → program_limit dialect p ≡ None → All IsWhole (drafts (program_tree p))
+pub program_whole : (dialect : Dialect) (p : ProgramPhrase) → program_limit dialect p ≡ None → All IsWhole (drafts (program_tree p))
 program_whole dialect p e = whole_from dialect p [] 0 0 e

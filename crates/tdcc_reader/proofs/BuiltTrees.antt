@@ -4,7 +4,8 @@ use Rattle.std.specs.Prelude.{insert}
 use Rattle.std.proofs.lemmas.List.{append-nil}
 use Rattle.std.proofs.lemmas.List.Edits.{insert-append_right}
 use Rattle.program_grammar.specs.Terms.{Name, Number, Then, Else, Do, Watching, On, Ampersand, Bars, CloseBrace, Bang, Hash, GreaterEqual, LessEqual, Equal}
-use Rattle.program_grammar.specs.Phrases.{Token, Asserts, Denies, Clashes, AtLeast, AtMost, Exactly, Constraint, One, Both, Unit', Nothing, Tell, Braces, IfThen, IfElse, LocalSignal, LocalInt, Henceforth, AtNext, Ever, Whenever, Watch, Timed, Agent, Only, Par, Names, LastName, MoreName, Items, LastItem, MoreItem, Program, Runs, Signals, Ints}
+use Rattle.program_grammar.specs.Phrases.{TokenPhrase, AtLeast, AtMost, Exactly, ConstraintPhrase, One, Both, UnitPhrase, Tell, Braces, IfThen, IfElse, LocalSignal, LocalInt, AgentPhrase, Only, Par, NamesPhrase, LastName, MoreName, ItemsPhrase, LastItem, MoreItem, ProgramPhrase, Runs, Signals, Ints}
+use Rattle.program_grammar.specs.Phrases as phrase
 use Rattle.program_grammar.specs.declared.parts.Part.{Part}
 use Rattle.program_grammar.specs.declared.parts.Part.TheVariants.{OneUnit, MoreUnits, OneToken, MoreTokens, Bound, Branch, DeniedName, ClashingName, LeastNumber, MostNumber, ExactNumber, TheClose, EndTell, EndBody, EndLocal, TheDo, TheWatching, TheOn, EndWatch, EndTimed}
 use Rattle.program_grammar.specs.Events.{Event, Takes, Leaves, token_events, constraint_events, unit_events, agent_events, names_events, items_events, program_events}
@@ -45,16 +46,16 @@ unit_begins x rest f a s n c d = (refl, refl, refl)
 token_begins : Begins OneToken
 token_begins x rest f a s n c d = (refl, refl, refl)
 
-token_built : (p : Part) → Begins p → (t : Token) (rest : List Event) (f : List Entry) (a : Ask) (s : List ℕ) (n : List Placed) (c : List Declared) (d : ℕ)
+token_built : (p : Part) → Begins p → (t : TokenPhrase) (rest : List Event) (f : List Entry) (a : Ask) (s : List ℕ) (n : List Placed) (c : List Declared) (d : ℕ)
     → acts (token_events p t rest) (B f a s n c d) ≡ acts rest (B f (a ++ token_ask n t) s n c d)
-token_built p b (Asserts x) rest f a s n c d = (b x (Leaves Bound ∷ rest) f a s n c d).0
-token_built p b (Denies x) rest f a s n c d = (b x (Takes DeniedName (Name x) ∷ rest) f a s n c d).1
-token_built p b (Clashes x) rest f a s n c d = (b x (Takes ClashingName (Name x) ∷ rest) f a s n c d).2
+token_built p b (phrase.On x) rest f a s n c d = (b x (Leaves Bound ∷ rest) f a s n c d).0
+token_built p b (phrase.Off x) rest f a s n c d = (b x (Takes DeniedName (Name x) ∷ rest) f a s n c d).1
+token_built p b (phrase.Clash x) rest f a s n c d = (b x (Takes ClashingName (Name x) ∷ rest) f a s n c d).2
 token_built p b (AtLeast x k) rest f a s n c d = (b x (Takes Bound GreaterEqual ∷ Takes LeastNumber (Number k) ∷ rest) f a s n c d).0
 token_built p b (AtMost x k) rest f a s n c d = (b x (Takes Bound LessEqual ∷ Takes MostNumber (Number k) ∷ rest) f a s n c d).0
 token_built p b (Exactly x k) rest f a s n c d = (b x (Takes Bound Equal ∷ Takes ExactNumber (Number k) ∷ rest) f a s n c d).0
 
-constraint_built : (q : Constraint) (p : Part) → Begins p → (rest : List Event) (f : List Entry) (a : Ask) (s : List ℕ) (n : List Placed) (c : List Declared) (d : ℕ)
+constraint_built : (q : ConstraintPhrase) (p : Part) → Begins p → (rest : List Event) (f : List Entry) (a : Ask) (s : List ℕ) (n : List Placed) (c : List Declared) (d : ℕ)
     → acts (constraint_events p q rest) (B f a s n c d) ≡ acts rest (B f (a ++ ask_of n q) s n c d)
 constraint_built (One t) p b rest f a s n c d = token_built p b t (Leaves MoreTokens ∷ rest) f a s n c d
 constraint_built (Both t q) p b rest f a s n c d =
@@ -62,21 +63,21 @@ constraint_built (Both t q) p b rest f a s n c d =
     ∙ constraint_built q OneToken token_begins rest f (a ++ token_ask n t) s n c d
     ∙ ap (λ l. acts rest (B f l s n c d)) (append_assoc a (token_ask n t) (ask_of n q))
 
-abbrev UnitBuilt : Unit' → Type 0
+abbrev UnitBuilt : UnitPhrase → Type 0
 UnitBuilt u = (rest : List Event) (f : List Entry) (s : List ℕ) (n : List Placed) (c : List Declared) (d : ℕ) → length c + length (unit_cells u) ≤ 4294967295
     → acts (unit_events u rest) (B f [] s n c d) ≡ acts rest (B (f ++ drafts (unit_tree u n (length c))) [] s n (c ++ unit_cells u) d)
 
-abbrev AgentBuilt : Agent → Type 0
+abbrev AgentBuilt : AgentPhrase → Type 0
 AgentBuilt g = (rest : List Event) (f : List Entry) (s : List ℕ) (n : List Placed) (c : List Declared) (d : ℕ) → length c + length (agent_cells g) ≤ 4294967295
     → acts (agent_events g rest) (B f [] (length f ∷ s) n c d) ≡ acts rest (B (f ++ drafts (agent_tree g n (length c))) [] s n (c ++ agent_cells g) d)
 
 -- a form in front of its body
-under : (u : Unit') (e : Entry) (rest : List Event) (f : List Entry) (s : List ℕ) (n : List Placed) (c : List Declared) (d : ℕ) → UnitBuilt u → length c + length (unit_cells u) ≤ 4294967295
+under : (u : UnitPhrase) (e : Entry) (rest : List Event) (f : List Entry) (s : List ℕ) (n : List Placed) (c : List Declared) (d : ℕ) → UnitBuilt u → length c + length (unit_cells u) ≤ 4294967295
     → acts (unit_events u (Leaves EndBody ∷ rest)) (B (f ++ e ∷ []) [] s n c d) ≡ acts rest (B (f ++ e ∷ drafts (unit_tree u n (length c))) [] s n (c ++ unit_cells u) d)
 under u e rest f s n c d ih h = ih (Leaves EndBody ∷ rest) (f ++ e ∷ []) s n c d h ∙ ap (λ l. acts rest (B l [] s n (c ++ unit_cells u) d)) (append_assoc f (e ∷ []) (drafts (unit_tree u n (length c))))
 
 -- an ask and then a body
-asked : (q : Constraint) (u : Unit') (k : DraftKind) (mid : Event) → ((rest : List Event) (f : List Entry) (a : Ask) (s : List ℕ) (n : List Placed) (c : List Declared) (d : ℕ) → acts (mid ∷ rest) (B f a s n c d) ≡ acts rest (B (f ++ entry k a ∷ []) [] s n c d))
+asked : (q : ConstraintPhrase) (u : UnitPhrase) (k : DraftKind) (mid : Event) → ((rest : List Event) (f : List Entry) (a : Ask) (s : List ℕ) (n : List Placed) (c : List Declared) (d : ℕ) → acts (mid ∷ rest) (B f a s n c d) ≡ acts rest (B (f ++ entry k a ∷ []) [] s n c d))
     → (rest : List Event) (f : List Entry) (s : List ℕ) (n : List Placed) (c : List Declared) (d : ℕ) → UnitBuilt u → length c + length (unit_cells u) ≤ 4294967295
     → acts (constraint_events OneToken q (mid ∷ unit_events u (Leaves EndBody ∷ rest))) (B f [] s n c d) ≡ acts rest (B (f ++ entry k (ask_of n q) ∷ drafts (unit_tree u n (length c))) [] s n (c ++ unit_cells u) d)
 asked q u k mid on rest f s n c d ih h =
@@ -94,7 +95,7 @@ rest_fits : (c : List Declared) (v : Declared) (more : List Declared) → length
 rest_fits c v more h = let e : length (v ∷ more) ≡ length more + 1 = omega arith in omega (arith, e, length_more c v)
 
 -- a new local cell in front of its body
-local_built : (x : List ℕ) (v : Declared) (u : Unit') (rest : List Event) (f : List Entry) (s : List ℕ) (n : List Placed) (c : List Declared) (d : ℕ) → UnitBuilt u → length c + length (v ∷ unit_cells u) ≤ 4294967295
+local_built : (x : List ℕ) (v : Declared) (u : UnitPhrase) (rest : List Event) (f : List Entry) (s : List ℕ) (n : List Placed) (c : List Declared) (d : ℕ) → UnitBuilt u → length c + length (v ∷ unit_cells u) ≤ 4294967295
     → acts (unit_events u (Leaves EndLocal ∷ rest)) (B (f ++ entry (kind.New (pass.next_cell c)) [] ∷ []) [] s (placed x (pass.next_cell c) ∷ n) (c ++ v ∷ []) d)
     ≡ acts rest (B (f ++ entry (kind.New (length c)) [] ∷ drafts (unit_tree u (placed x (length c) ∷ n) (length c + 1))) [] s n (c ++ v ∷ unit_cells u) d)
 local_built x v u rest f s n c d ih h =
@@ -133,7 +134,7 @@ left_built f g rest s n c d =
     ∙ ap (λ k. acts rest (B (f ++ entry (kind.Par (1 + length g)) [] ∷ g) [] (k ∷ s) n c d)) (length_seam f g (entry (kind.Par (1 + length g)) []))
 
 -- the right part behind the left one
-right_built : (f h : List Entry) (e : Entry) (g : Agent) (rest : List Event) (s : List ℕ) (n : List Placed) (c v : List Declared) (d : ℕ)
+right_built : (f h : List Entry) (e : Entry) (g : AgentPhrase) (rest : List Event) (s : List ℕ) (n : List Placed) (c v : List Declared) (d : ℕ)
     → acts rest (B ((f ++ e ∷ h) ++ drafts (agent_tree g n (length (c ++ v)))) [] s n ((c ++ v) ++ agent_cells g) d)
     ≡ acts rest (B (f ++ (e ∷ h ++ drafts (agent_tree g n (length c + length v)))) [] s n (c ++ (v ++ agent_cells g)) d)
 right_built f h e g rest s n c v d =
@@ -141,7 +142,7 @@ right_built f h e g rest s n c v d =
     ∙ ap (λ l. acts rest (B (f ++ (e ∷ h ++ drafts (agent_tree g n (length c + length v)))) [] s n l d)) (append_assoc c v (agent_cells g))
 
 -- a body in front of its constraint
-ended : (a : Agent) (q : Constraint) (k : DraftKind) (mid end : Event)
+ended : (a : AgentPhrase) (q : ConstraintPhrase) (k : DraftKind) (mid end : Event)
     → ((rest : List Event) (b : pass.Built) → acts (mid ∷ rest) b ≡ acts rest b)
     → ((rest : List Event) (b : pass.Built) → acts (end ∷ rest) b ≡ acts rest (pass.wraps k b))
     → (rest : List Event) (f : List Entry) (s : List ℕ) (n : List Placed) (c : List Declared) (d : ℕ) → AgentBuilt a → length c + length (agent_cells a) ≤ 4294967295
@@ -162,22 +163,22 @@ right_fits : (c v w : List Declared) → length c + length (v ++ w) ≤ 42949672
 right_fits c v w h = omega (arith, length-append v w, length-append c v)
 
 mutual
-  unit_built : (u : Unit') → UnitBuilt u
-  unit_built Nothing rest f s n c d h = ap (λ l. acts rest (B (f ++ entry kind.Skip [] ∷ []) [] s n l d)) (sym (append-nil c))
+  unit_built : (u : UnitPhrase) → UnitBuilt u
+  unit_built phrase.Skip rest f s n c d h = ap (λ l. acts rest (B (f ++ entry kind.Skip [] ∷ []) [] s n l d)) (sym (append-nil c))
   unit_built (Tell q) rest f s n c d h = constraint_built q OneUnit unit_begins (Leaves EndTell ∷ rest) f [] s n c d ∙ ap (λ l. acts rest (B (f ++ entry kind.Tell (ask_of n q) ∷ []) [] s n l d)) (sym (append-nil c))
   unit_built (Braces g) rest f s n c d h = agent_built g (Takes TheClose CloseBrace ∷ rest) f s n c d h
   unit_built (IfThen q u) rest f s n c d h = asked q u kind.Then (Takes Branch Then) (λ rest f a s n c d. refl) rest f s n c d (unit_built u) h
   unit_built (IfElse q u) rest f s n c d h = asked q u kind.Else (Takes Branch Else) (λ rest f a s n c d. refl) rest f s n c d (unit_built u) h
   unit_built (LocalSignal x u) rest f s n c d h = local_built x (signal x) u rest f s n c d (unit_built u) h
   unit_built (LocalInt x l k u) rest f s n c d h = local_built x (number x l k) u rest f s n c d (unit_built u) h
-  unit_built (Henceforth u) rest f s n c d h = under u (entry kind.Hence []) rest f s n c d (unit_built u) h
-  unit_built (AtNext u) rest f s n c d h = under u (entry kind.Next []) rest f s n c d (unit_built u) h
-  unit_built (Ever u) rest f s n c d h = under u (entry kind.Always []) rest f s n c d (unit_built u) h
-  unit_built (Whenever q u) rest f s n c d h = asked q u kind.When (Takes TheDo Do) (λ rest f a s n c d. refl) rest f s n c d (unit_built u) h
-  unit_built (Watch a q) rest f s n c d h = ended a q kind.Watch (Takes TheWatching Watching) (Leaves EndWatch) (λ rest b. refl) (λ rest b. refl) rest f s n c d (agent_built a) h
-  unit_built (Timed a q) rest f s n c d h = ended a q kind.Time (Takes TheOn On) (Leaves EndTimed) (λ rest b. refl) (λ rest b. refl) rest f s n c d (agent_built a) h
+  unit_built (phrase.Hence u) rest f s n c d h = under u (entry kind.Hence []) rest f s n c d (unit_built u) h
+  unit_built (phrase.Next u) rest f s n c d h = under u (entry kind.Next []) rest f s n c d (unit_built u) h
+  unit_built (phrase.Always u) rest f s n c d h = under u (entry kind.Always []) rest f s n c d (unit_built u) h
+  unit_built (phrase.When q u) rest f s n c d h = asked q u kind.When (Takes TheDo Do) (λ rest f a s n c d. refl) rest f s n c d (unit_built u) h
+  unit_built (phrase.Watching a q) rest f s n c d h = ended a q kind.Watch (Takes TheWatching Watching) (Leaves EndWatch) (λ rest b. refl) (λ rest b. refl) rest f s n c d (agent_built a) h
+  unit_built (phrase.TimeOn a q) rest f s n c d h = ended a q kind.Time (Takes TheOn On) (Leaves EndTimed) (λ rest b. refl) (λ rest b. refl) rest f s n c d (agent_built a) h
 
-  agent_built : (g : Agent) → AgentBuilt g
+  agent_built : (g : AgentPhrase) → AgentBuilt g
   agent_built (Only u) rest f s n c d h = unit_built u (Leaves MoreUnits ∷ rest) f (length f ∷ s) n c d h
   agent_built (Par u g) rest f s n c d h =
       unit_built u (Takes MoreUnits Bars ∷ agent_events g rest) f (length f ∷ s) n c d (left_fits c (unit_cells u) (agent_cells g) h)
@@ -185,7 +186,7 @@ mutual
       ∙ agent_built g rest (f ++ entry (kind.Par (1 + length (drafts (unit_tree u n (length c))))) [] ∷ drafts (unit_tree u n (length c))) s n (c ++ unit_cells u) d (right_fits c (unit_cells u) (agent_cells g) h)
       ∙ right_built f (drafts (unit_tree u n (length c))) (entry (kind.Par (1 + length (drafts (unit_tree u n (length c))))) []) g rest s n c (unit_cells u) d
 
-names_built : (ns : Names) (rest : List Event) (f : List Entry) (s : List ℕ) (n : List Placed) (c : List Declared) (d : ℕ) → length c + length (names_cells ns) ≤ 4294967295
+names_built : (ns : NamesPhrase) (rest : List Event) (f : List Entry) (s : List ℕ) (n : List Placed) (c : List Declared) (d : ℕ) → length c + length (names_cells ns) ≤ 4294967295
     → acts (names_events ns rest) (B f [] s n c d) ≡ acts rest (B f [] s (names_scope ns n (length c)) (c ++ names_cells ns) d)
 names_built (LastName x) rest f s n c d h = ap (λ k. acts rest (B f [] s (placed x k ∷ n) (c ++ signal x ∷ []) d)) (next_is c (signal x) [] h)
 names_built (MoreName x ns) rest f s n c d h =
@@ -194,7 +195,7 @@ names_built (MoreName x ns) rest f s n c d h =
     ∙ ap (λ k. acts rest (B f [] s (names_scope ns (placed x (length c) ∷ n) k) ((c ++ signal x ∷ []) ++ names_cells ns) d)) (length_more c (signal x))
     ∙ ap (λ l. acts rest (B f [] s (names_scope ns (placed x (length c) ∷ n) (length c + 1)) l d)) (append_assoc c (signal x ∷ []) (names_cells ns))
 
-items_built : (is : Items) (rest : List Event) (f : List Entry) (s : List ℕ) (n : List Placed) (c : List Declared) (d : ℕ) → length c + length (items_cells is) ≤ 4294967295
+items_built : (is : ItemsPhrase) (rest : List Event) (f : List Entry) (s : List ℕ) (n : List Placed) (c : List Declared) (d : ℕ) → length c + length (items_cells is) ≤ 4294967295
     → acts (items_events is rest) (B f [] s n c d) ≡ acts rest (B f [] s (items_scope is n (length c)) (c ++ items_cells is) d)
 items_built (LastItem x l k) rest f s n c d h = ap (λ j. acts rest (B f [] s (placed x j ∷ n) (c ++ number x l k ∷ []) d)) (next_is c (number x l k) [] h)
 items_built (MoreItem x l k is) rest f s n c d h =
@@ -204,12 +205,12 @@ items_built (MoreItem x l k is) rest f s n c d h =
     ∙ ap (λ q. acts rest (B f [] s (items_scope is (placed x (length c) ∷ n) (length c + 1)) q d)) (append_assoc c (number x l k ∷ []) (items_cells is))
 
 -- the drafts, the cells and how many are declared
-pub record Gives (p : Program) (n : List Placed) (c : List Declared) (b : pass.Built) : Type 0 where
+pub record Gives (p : ProgramPhrase) (n : List Placed) (c : List Declared) (b : pass.Built) : Type 0 where
   pub tree : b.drafts ≡ drafts (tree_from p n (length c))
   pub cells : b.cells ≡ c ++ program_cells p
   pub declared : b.declared ≡ length c + length (declared_cells p)
 
-gives_behind : (v : List Declared) (p q : Program) (n m : List Placed) (c : List Declared) (b : pass.Built)
+gives_behind : (v : List Declared) (p q : ProgramPhrase) (n m : List Placed) (c : List Declared) (b : pass.Built)
     → tree_from q n (length c) ≡ tree_from p m (length c + length v) → program_cells q ≡ v ++ program_cells p → declared_cells q ≡ v ++ declared_cells p
     → Gives p m (c ++ v) b → Gives q n c b
 gives_behind v p q n m c b et ec ed g = record {
@@ -218,7 +219,7 @@ gives_behind v p q n m c b et ec ed g = record {
   declared = (let e : length (declared_cells q) ≡ length v + length (declared_cells p) = ap length ed ∙ length-append v (declared_cells p) in g.declared ∙ omega (arith, e, length-append c v));
 }
 
-gives_from : (p : Program) (n : List Placed) (c : List Declared) (d : ℕ) → length c + length (program_cells p) ≤ 4294967295 → Gives p n c (acts (program_events p) (B [] [] (0 ∷ []) n c d))
+gives_from : (p : ProgramPhrase) (n : List Placed) (c : List Declared) (d : ℕ) → length c + length (program_cells p) ≤ 4294967295 → Gives p n c (acts (program_events p) (B [] [] (0 ∷ []) n c d))
 gives_from (Runs g) n c d h =
     subst (Gives (Runs g) n c) (sym (agent_built g [] [] [] n c (length c) h)) (record { tree = refl; cells = refl; declared = omega arith })
 gives_from (Signals ns p) n c d h =
@@ -229,8 +230,8 @@ gives_from (Ints is p) n c d h =
     (gives_behind (items_cells is) p (Ints is p) n (items_scope is n (length c)) c (acts (program_events p) (B [] [] (0 ∷ []) (items_scope is n (length c)) (c ++ items_cells is) d)) refl refl refl (gives_from p (items_scope is n (length c)) (c ++ items_cells is) d (right_fits c (items_cells is) (program_cells p) h)))
 
 -- The pass over a program builds its tree and its cells.
-pub program_built : (p : Program) → length (program_cells p) ≤ 4294967295 → Gives p [] [] (over_events pass.build_pass 0 (program_events p) pass.nothing_built)
+pub program_built : (p : ProgramPhrase) → length (program_cells p) ≤ 4294967295 → Gives p [] [] (over_events pass.build_pass 0 (program_events p) pass.nothing_built)
 program_built p h = subst (Gives p [] []) (sym (over_acts (program_events p) 0 pass.nothing_built)) (gives_from p [] [] 0 (omega arith))
 
-pub is_built : (p : Program) (b : pass.Built) → length (program_cells p) ≤ 4294967295 → b ≡ over_events pass.build_pass 0 (program_events p) pass.nothing_built → IsBuilt p b
+pub is_built : (p : ProgramPhrase) (b : pass.Built) → length (program_cells p) ≤ 4294967295 → b ≡ over_events pass.build_pass 0 (program_events p) pass.nothing_built → IsBuilt p b
 is_built p b h e = subst (IsBuilt p) (sym e) (let g = program_built p h in record { tree = g.tree; cells = g.cells; declared = g.declared ∙ omega arith })

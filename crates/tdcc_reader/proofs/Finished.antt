@@ -2,7 +2,7 @@
 use Rattle.std.proofs.Common.{◌≡◌, ℕ, zero, suc, ◌<◌, ◌≤◌, List, [], ◌∷◌, length, get_or, refl, ap, sym, ◌∙◌, arith, subst, None}
 use Rattle.std.specs.Prelude.{All, map}
 use Rattle.std.proofs.lemmas.List.{length-map}
-use Rattle.program_grammar.specs.Phrases.{Program}
+use Rattle.program_grammar.specs.Phrases.{ProgramPhrase}
 use Rattle.program_grammar.specs.Spelling.{program}
 use Rattle.agent_core.specs.declared.node.CellDecl.{CellDecl}
 use Rattle.tdcc_reader.specs.declared.dialect.Dialect.{Dialect}
@@ -29,17 +29,17 @@ get_or-map f (x ∷ xs) zero d = refl
 get_or-map f (x ∷ xs) (suc k) d = get_or-map f xs k d
 
 -- the drafts of the code have whole asks
-pub ready_whole : (dialect : Dialect) (text : List ℕ) (p : Program) (b : Built) (ds : List Draft) → IsReady dialect text p b → map draft_view ds ≡ b.drafts → All IsWholeDraft ds
+pub ready_whole : (dialect : Dialect) (text : List ℕ) (p : ProgramPhrase) (b : Built) (ds : List Draft) → IsReady dialect text p b → map draft_view ds ≡ b.drafts → All IsWholeDraft ds
 ready_whole dialect text p b ds r e k d h =
     let all : All IsWhole (map draft_view ds) = subst (All IsWhole) (sym (e ∙ r.built.tree)) (program_whole dialect p r.accepts.within) in
     let l = length-map ds draft_view in
     subst IsWhole (get_or-map draft_view ds k d) (all k (draft_view d) (omega arith))
 
-pub ready_few : (dialect : Dialect) (text : List ℕ) (p : Program) (b : Built) → IsReady dialect text p b → b.declared ≤ 256
+pub ready_few : (dialect : Dialect) (text : List ℕ) (p : ProgramPhrase) (b : Built) → IsReady dialect text p b → b.declared ≤ 256
 ready_few dialect text p b r = let d = r.accepts.declared in let e = r.built.declared in omega arith
 
 -- the surface of the program
-pub ready_surface : (dialect : Dialect) (text : List ℕ) (p : Program) (b : Built) (cells : List CellDecl) (forms : List Form) → IsReady dialect text p b → map cell_view cells ≡ b.cells → forms ≡ forms_at 0 b.drafts
+pub ready_surface : (dialect : Dialect) (text : List ℕ) (p : ProgramPhrase) (b : Built) (cells : List CellDecl) (forms : List Form) → IsReady dialect text p b → map cell_view cells ≡ b.cells → forms ≡ forms_at 0 b.drafts
     → IsSurfaceOf p (record { cells = cells; declared = b.declared; forms = forms })
 ready_surface dialect text p b cells forms r ec ef =
     let f = forms_fit p in
@@ -50,14 +50,14 @@ ready_surface dialect text p b cells forms r ec ef =
       forms = ef ∙ ap (forms_at 0) r.built.tree ∙ listed (program_tree p) 0 (omega arith);
     }
 
-terms_long : (dialect : Dialect) (ts : List Term) (p : Program) → IsProgramOf dialect ts p → length ts ≡ length (program p [])
+terms_long : (dialect : Dialect) (ts : List Term) (p : ProgramPhrase) → IsProgramOf dialect ts p → length ts ≡ length (program p [])
 terms_long dialect ts p is = ap length is.spells.spelled
 
 -- a program of few terms has few cells
-pub few_cells : (dialect : Dialect) (ts : List Term) (p : Program) → IsProgramOf dialect ts p → length ts ≤ 4194304 → length (program_cells p) ≤ 4294967295
+pub few_cells : (dialect : Dialect) (ts : List Term) (p : ProgramPhrase) → IsProgramOf dialect ts p → length ts ≤ 4194304 → length (program_cells p) ≤ 4294967295
 few_cells dialect ts p is h = let e = terms_long dialect ts p is in let f = cells_fit p in omega arith
 
-pub all_checked : (dialect : Dialect) (p : Program) (b : Built) → program_limit dialect p ≡ None → program_fault p ≡ None → IsBuilt p b → b.declared ≤ 256 → IsChecked dialect p b
+pub all_checked : (dialect : Dialect) (p : ProgramPhrase) (b : Built) → program_limit dialect p ≡ None → program_fault p ≡ None → IsBuilt p b → b.declared ≤ 256 → IsChecked dialect p b
 all_checked dialect p b within named built few = record {
   within = within;
   named = named;
@@ -65,10 +65,10 @@ all_checked dialect p b within named built few = record {
   built = built;
 }
 
-pub many_declared : (p : Program) (b : Built) → IsBuilt p b → 256 < b.declared → 256 < length (declared_cells p)
+pub many_declared : (p : ProgramPhrase) (b : Built) → IsBuilt p b → 256 < b.declared → 256 < length (declared_cells p)
 many_declared p b built many = let e = built.declared in omega arith
 
-pub all_ready : (dialect : Dialect) (text : List ℕ) (ts : List Term) (p : Program) (b : Built) → HasTerms dialect text ts → length ts ≤ 4194304 → IsProgramOf dialect ts p → IsChecked dialect p b → IsReady dialect text p b
+pub all_ready : (dialect : Dialect) (text : List ℕ) (ts : List Term) (p : ProgramPhrase) (b : Built) → HasTerms dialect text ts → length ts ≤ 4194304 → IsProgramOf dialect ts p → IsChecked dialect p b → IsReady dialect text p b
 all_ready dialect text ts p b has few is checked = record {
   accepts = record { terms = ts; has = has; is = is; within = checked.within; named = checked.named; declared = checked.declared };
   few = (let e = terms_long dialect ts p is in omega arith);
@@ -95,5 +95,5 @@ terms_refused dialect text ts fault.TooManyCells h r = (ts, h, r)
 terms_refused dialect text ts fault.Memory h r = tt
 
 -- a program that declares few cells is not refused for them
-pub not_many : {X : Type 0} (p : Program) (b : Built) → IsBuilt p b → 256 < b.declared → length (declared_cells p) ≤ 256 → X
+pub not_many : {X : Type 0} (p : ProgramPhrase) (b : Built) → IsBuilt p b → 256 < b.declared → length (declared_cells p) ≤ 256 → X
 not_many p b built many few = let e = built.declared in absurd (omega arith)

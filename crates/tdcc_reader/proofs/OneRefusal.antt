@@ -8,7 +8,7 @@ use Rattle.program_lexemes.specs.declared.lexer.LexKind.TheVariants as kind
 use Rattle.program_lexemes.specs.Lexemes.{IsBad}
 use Rattle.program_lexemes.proofs.Unique.{unique, lexed_not_bad, one_bad_byte}
 use Rattle.program_grammar.specs.Terms.{Term, classes}
-use Rattle.program_grammar.specs.Phrases.{Program}
+use Rattle.program_grammar.specs.Phrases.{ProgramPhrase}
 use Rattle.program_grammar.specs.Programs.{IsFault}
 use Rattle.program_grammar.proofs.Unambiguous.{one_program}
 use Rattle.tdcc_reader.specs.declared.dialect.Dialect.{Dialect}
@@ -36,11 +36,11 @@ one_terms : (dialect : Dialect) (text : List ℕ) (ts us : List Term) → HasTer
 one_terms dialect text ts us a b = a.terms ∙ ap (terms_of text) (one_lexed dialect text a.lexemes b.lexemes a.lexed b.lexed) ∙ sym b.terms
 
 -- Terms are one program.
-one_phrase : (dialect : Dialect) (ts us : List Term) (p q : Program) → ts ≡ us → IsProgramOf dialect ts p → IsProgramOf dialect us q → p ≡ q
+one_phrase : (dialect : Dialect) (ts us : List Term) (p q : ProgramPhrase) → ts ≡ us → IsProgramOf dialect ts p → IsProgramOf dialect us q → p ≡ q
 one_phrase dialect ts us p q e a b = one_program p q (sym a.spells.spelled ∙ e ∙ b.spells.spelled)
 
 -- A text is one program.
-pub one_accepted : (dialect : Dialect) (text : List ℕ) (p q : Program) → Accepts dialect text p → Accepts dialect text q → p ≡ q
+pub one_accepted : (dialect : Dialect) (text : List ℕ) (p q : ProgramPhrase) → Accepts dialect text p → Accepts dialect text q → p ≡ q
 one_accepted dialect text p q a b = one_phrase dialect a.terms b.terms p q (one_terms dialect text a.terms b.terms a.has b.has) a.is b.is
 
 -- the refusal for a lexeme that is too long, for a limit, for a name, for so many declared cells
@@ -66,7 +66,7 @@ many_refusal n = if nat_lt 256 n then Some TooManyDeclared else None
 abbrev refusal_of : Option Limit → Option NameFault → ℕ → Option ReadFault
 refusal_of l f n = first (option_map limit_refusal l) (first (option_map name_refusal f) (many_refusal n))
 
-abbrev program_refusal : Dialect → Program → Option ReadFault
+abbrev program_refusal : Dialect → ProgramPhrase → Option ReadFault
 program_refusal dialect p = refusal_of (program_limit dialect p) (program_fault p) (length (declared_cells p))
 
 -- the verdict on terms, which is None where they are accepted: the first one that belongs to a form to come, the place of
@@ -74,7 +74,7 @@ program_refusal dialect p = refusal_of (program_limit dialect p) (program_fault 
 data TermsFound (dialect : Dialect) (ts : List Term) (verdict : Option ReadFault) : Type 0 where
   to_come : (place : ℕ) → position is_later (classes ts) ≡ Some place → verdict ≡ Some (Later place) → TermsFound dialect ts verdict
   no_program : (place : ℕ) → position is_later (classes ts) ≡ None → IsFault (language dialect) ts place → verdict ≡ Some (Syntax place) → TermsFound dialect ts verdict
-  a_program : (p : Program) → IsProgramOf dialect ts p → verdict ≡ program_refusal dialect p → TermsFound dialect ts verdict
+  a_program : (p : ProgramPhrase) → IsProgramOf dialect ts p → verdict ≡ program_refusal dialect p → TermsFound dialect ts verdict
 
 -- the verdict on a text
 data Found (dialect : Dialect) (text : List ℕ) (verdict : Option ReadFault) : Type 0 where
@@ -139,14 +139,14 @@ one_found dialect text v w (terms ts has a) (terms us has' b) =
     one_of_terms dialect us v w there b
 
 -- a program's refusal
-limited : (dialect : Dialect) (p : Program) (l : Limit) → program_limit dialect p ≡ Some l → Some (limit_refusal l) ≡ program_refusal dialect p
+limited : (dialect : Dialect) (p : ProgramPhrase) (l : Limit) → program_limit dialect p ≡ Some l → Some (limit_refusal l) ≡ program_refusal dialect p
 limited dialect p l e = sym (ap (λ x. refusal_of x (program_fault p) (length (declared_cells p))) e)
 
-misnamed : (dialect : Dialect) (p : Program) (f : NameFault) → program_limit dialect p ≡ None → program_fault p ≡ Some f → Some (name_refusal f) ≡ program_refusal dialect p
+misnamed : (dialect : Dialect) (p : ProgramPhrase) (f : NameFault) → program_limit dialect p ≡ None → program_fault p ≡ Some f → Some (name_refusal f) ≡ program_refusal dialect p
 misnamed dialect p f within e =
     sym (ap (λ x. refusal_of x (program_fault p) (length (declared_cells p))) within ∙ ap (λ x. refusal_of None x (length (declared_cells p))) e)
 
-unlimited : (dialect : Dialect) (p : Program) → program_limit dialect p ≡ None → program_fault p ≡ None → many_refusal (length (declared_cells p)) ≡ program_refusal dialect p
+unlimited : (dialect : Dialect) (p : ProgramPhrase) → program_limit dialect p ≡ None → program_fault p ≡ None → many_refusal (length (declared_cells p)) ≡ program_refusal dialect p
 unlimited dialect p within named =
     sym (ap (λ x. refusal_of x (program_fault p) (length (declared_cells p))) within ∙ ap (λ x. refusal_of None x (length (declared_cells p))) named)
 
@@ -176,7 +176,7 @@ refused dialect text TooManyCells not_memory (ts, has, (p, is, within, h)) = abs
 refused dialect text Memory not_memory h = absurd (not_memory refl)
 
 -- and that a text is accepted
-accepted : (dialect : Dialect) (text : List ℕ) (p : Program) → Accepts dialect text p → Found dialect text None
+accepted : (dialect : Dialect) (text : List ℕ) (p : ProgramPhrase) → Accepts dialect text p → Found dialect text None
 accepted dialect text p a = terms a.terms a.has (a_program p a.is (few (length (declared_cells p)) a.declared ∙ unlimited dialect p a.within a.named))
 
 -- A text has one refusal at most.

@@ -5,7 +5,7 @@ use Rattle.program_grammar.specs.Terms.{Term, Skip}
 use Rattle.program_grammar.specs.declared.words.Language.{Language}
 use Rattle.program_grammar.specs.declared.machine.Step.{Step}
 use Rattle.program_grammar.specs.Events.{Event, Takes, Leaves, numbered, program_events, event_at}
-use Rattle.program_grammar.specs.Phrases.{Program}
+use Rattle.program_grammar.specs.Phrases.{ProgramPhrase}
 use Rattle.program_grammar.specs.Programs.{Spells}
 use Rattle.program_grammar.specs.Reading.{AreSteps}
 use Rattle.program_grammar.specs.Spelling.{program}
@@ -26,8 +26,8 @@ steps_events f ts n (Takes p t ∷ es) s e =
     ∙ ap (λ v. over_events f (n + 1) es (f.takes n p v s)) here
 
 -- so it is for each program of these terms and steps
-pub over_program : {S : Type 0} (f : Pass S) (s : S) → ((p : Program) → map (event_at (program p [])) (numbered 0 (program_events p)) ≡ program_events p)
-    → (language : Language) (p : Program) (ts : List Term) (steps : List Step) → Spells language p ts → AreSteps p steps
+pub over_program : {S : Type 0} (f : Pass S) (s : S) → ((p : ProgramPhrase) → map (event_at (program p [])) (numbered 0 (program_events p)) ≡ program_events p)
+    → (language : Language) (p : ProgramPhrase) (ts : List Term) (steps : List Step) → Spells language p ts → AreSteps p steps
     → over_steps f ts steps s ≡ over_events f 0 (program_events p) s
 over_program f s law language p ts steps spells are =
     ap (λ l. over_steps f ts l s) are

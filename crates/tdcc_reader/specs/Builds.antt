@@ -1,6 +1,6 @@
 -- What is built of a program: the drafts of its tree, its cells, and how many of them are declared.
 use Rattle.std.specs.Prelude.{◌≡◌, ◌≤◌, ℕ, List, [], length, None}
-use Rattle.program_grammar.specs.Phrases.{Program}
+use Rattle.program_grammar.specs.Phrases.{ProgramPhrase}
 use Rattle.program_grammar.specs.Spelling.{program}
 use Rattle.tdcc_reader.specs.declared.dialect.Dialect.{Dialect}
 use Rattle.tdcc_reader.specs.Limits.{program_limit}
@@ -10,20 +10,20 @@ use Rattle.tdcc_reader.specs.Surfaces.{program_tree, program_cells, declared_cel
 use Rattle.tdcc_reader.specs.Drafts.{drafts}
 use Rattle.tdcc_reader.specs.BuildPass.{Built}
 
-pub record IsBuilt (p : Program) (b : Built) : Type 0 where
+pub record IsBuilt (p : ProgramPhrase) (b : Built) : Type 0 where
   pub tree : b.drafts ≡ drafts (program_tree p)
   pub cells : b.cells ≡ program_cells p
   pub declared : b.declared ≡ length (declared_cells p)
 
 -- the program keeps the limits, its names have no fault, it declares few cells, and this is built of it
-pub record IsChecked (dialect : Dialect) (p : Program) (b : Built) : Type 0 where
+pub record IsChecked (dialect : Dialect) (p : ProgramPhrase) (b : Built) : Type 0 where
   pub within : program_limit dialect p ≡ None
   pub named : program_fault p ≡ None
   pub declared : length (declared_cells p) ≤ 256
   pub built : IsBuilt p b
 
 -- the text is accepted as this program, of which this is built
-pub record IsReady (dialect : Dialect) (text : List ℕ) (p : Program) (b : Built) : Type 0 where
+pub record IsReady (dialect : Dialect) (text : List ℕ) (p : ProgramPhrase) (b : Built) : Type 0 where
   pub accepts : Accepts dialect text p
   pub few : length (program p []) ≤ 4194304
   pub built : IsBuilt p b

@@ -5,7 +5,7 @@ use Rattle.program_lexemes.specs.declared.bytes.TextForm.{TextForm}
 use Rattle.program_lexemes.specs.declared.bytes.TextForm.TheVariants as form
 use Rattle.program_grammar.specs.declared.words.Language.{Language}
 use Rattle.program_grammar.specs.declared.words.Language.TheVariants as languages
-use Rattle.program_grammar.specs.Phrases.{Token, Exactly}
+use Rattle.program_grammar.specs.Phrases.{TokenPhrase, Exactly}
 use Rattle.tdcc_reader.specs.declared.dialect.Dialect.{Dialect}
 use Rattle.tdcc_reader.specs.declared.dialect.Dialect.TheVariants.{Program, Core}
 
@@ -40,6 +40,6 @@ equation_count Program = 1
 equation_count Core = 2
 
 -- as how many a token counts
-abbrev pub token_count : Dialect → Token → ℕ
+abbrev pub token_count : Dialect → TokenPhrase → ℕ
 token_count dialect (Exactly x n) = equation_count dialect
 token_count dialect t = 1

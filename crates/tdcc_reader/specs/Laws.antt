@@ -1,6 +1,6 @@
 -- What is proved of refusals. This project's own.
 use Rattle.std.specs.Prelude.{◌≡◌, ◌≢◌, ℕ, List}
-use Rattle.program_grammar.specs.Phrases.{Program}
+use Rattle.program_grammar.specs.Phrases.{ProgramPhrase}
 use Rattle.tdcc_reader.specs.declared.dialect.Dialect.{Dialect}
 use Rattle.tdcc_reader.specs.declared.fault.ReadFault.{ReadFault}
 use Rattle.tdcc_reader.specs.declared.fault.ReadFault.TheVariants.{Memory}
@@ -12,4 +12,4 @@ HasOneRefusal dialect text = (f g : ReadFault) → f ≢ Memory → g ≢ Memory
 
 -- want of memory aside, the text is not refused where it is accepted
 abbrev pub AcceptedIsNotRefused : Dialect → List ℕ → Type 0
-AcceptedIsNotRefused dialect text = (p : Program) (f : ReadFault) → f ≢ Memory → Accepts dialect text p → Refuses dialect text f → ⊥
+AcceptedIsNotRefused dialect text = (p : ProgramPhrase) (f : ReadFault) → f ≢ Memory → Accepts dialect text p → Refuses dialect text f → ⊥

@@ -6,7 +6,7 @@ use Rattle.program_lexemes.specs.declared.lexer.LexKind.{LexKind}
 use Rattle.program_lexemes.specs.declared.lexer.LexKind.TheVariants as kind
 use Rattle.program_lexemes.specs.Lexemes.{AreLexemes, IsBad}
 use Rattle.program_grammar.specs.Terms.{Term, classes}
-use Rattle.program_grammar.specs.Phrases.{Program}
+use Rattle.program_grammar.specs.Phrases.{ProgramPhrase}
 use Rattle.program_grammar.specs.Programs.{Spells, IsFault}
 use Rattle.tdcc_reader.specs.declared.dialect.Dialect.{Dialect}
 use Rattle.tdcc_reader.specs.declared.fault.ReadFault.{ReadFault}
@@ -46,18 +46,18 @@ RefusesLexemes text ls (LongNumber place) = IsFirstLong text ls kind.Number plac
 RefusesLexemes text ls _ = ⊥
 
 -- no term belongs to a form that is not built yet, and the terms are this program
-pub record IsProgramOf (dialect : Dialect) (ts : List Term) (p : Program) : Type 0 where
+pub record IsProgramOf (dialect : Dialect) (ts : List Term) (p : ProgramPhrase) : Type 0 where
   pub built : position is_later (classes ts) ≡ None
   pub spells : Spells (language dialect) p ts
 
 -- a unit of the program is too deep, or a constraint has too many tokens
-abbrev pub RefusesLimits : Dialect → Program → ReadFault → Type 0
+abbrev pub RefusesLimits : Dialect → ProgramPhrase → ReadFault → Type 0
 RefusesLimits dialect p (TooDeep place) = program_limit dialect p ≡ Some (limit.TooDeep place)
 RefusesLimits dialect p (TooManyTokens place) = program_limit dialect p ≡ Some (limit.TooManyTokens place)
 RefusesLimits dialect p _ = ⊥
 
 -- a name or a domain of the program is faulty
-abbrev pub RefusesNames : Program → ReadFault → Type 0
+abbrev pub RefusesNames : ProgramPhrase → ReadFault → Type 0
 RefusesNames p (DoubleName place) = program_fault p ≡ Some (naming.DoubleName place)
 RefusesNames p (EmptyDomain place) = program_fault p ≡ Some (naming.EmptyDomain place)
 RefusesNames p (UnknownName place) = program_fault p ≡ Some (naming.UnknownName place)
@@ -71,10 +71,10 @@ abbrev pub RefusesTerms : Dialect → List Term → ReadFault → Type 0
 RefusesTerms dialect ts (Later place) = position is_later (classes ts) ≡ Some place
 RefusesTerms dialect ts (Syntax place) = (position is_later (classes ts) ≡ None) × IsFault (language dialect) ts place
 RefusesTerms dialect ts Memory = Unit {0}
-RefusesTerms dialect ts (TooDeep place) = (p : Program) × IsProgramOf dialect ts p × RefusesLimits dialect p (TooDeep place)
-RefusesTerms dialect ts (TooManyTokens place) = (p : Program) × IsProgramOf dialect ts p × RefusesLimits dialect p (TooManyTokens place)
-RefusesTerms dialect ts TooManyDeclared = (p : Program) × IsProgramOf dialect ts p × (program_limit dialect p ≡ None) × (program_fault p ≡ None) × (256 < length (declared_cells p))
-RefusesTerms dialect ts fault = (p : Program) × IsProgramOf dialect ts p × (program_limit dialect p ≡ None) × RefusesNames p fault
+RefusesTerms dialect ts (TooDeep place) = (p : ProgramPhrase) × IsProgramOf dialect ts p × RefusesLimits dialect p (TooDeep place)
+RefusesTerms dialect ts (TooManyTokens place) = (p : ProgramPhrase) × IsProgramOf dialect ts p × RefusesLimits dialect p (TooManyTokens place)
+RefusesTerms dialect ts TooManyDeclared = (p : ProgramPhrase) × IsProgramOf dialect ts p × (program_limit dialect p ≡ None) × (program_fault p ≡ None) × (256 < length (declared_cells p))
+RefusesTerms dialect ts fault = (p : ProgramPhrase) × IsProgramOf dialect ts p × (program_limit dialect p ≡ None) × RefusesNames p fault
 
 -- the text is refused: it is too long, has a bad byte or a lexeme that is too long, or its terms are refused; want of
 -- memory says nothing of the text
@@ -87,7 +87,7 @@ Refuses dialect text Memory = Unit {0}
 Refuses dialect text fault = (ts : List Term) × HasTerms dialect text ts × RefusesTerms dialect ts fault
 
 -- the text is this program, and it is not refused
-pub record Accepts (dialect : Dialect) (text : List ℕ) (p : Program) : Type 0 where
+pub record Accepts (dialect : Dialect) (text : List ℕ) (p : ProgramPhrase) : Type 0 where
   pub terms : List Term
   pub has : HasTerms dialect text terms
   pub is : IsProgramOf dialect terms p

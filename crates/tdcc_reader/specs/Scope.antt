@@ -4,7 +4,8 @@
 use Rattle.std.specs.Prelude.{ℕ, ◌+◌, ℤ, int_lt, List, [], ◌∷◌, bytes_eq, if◌then◌else◌, Option, Some, None}
 use Rattle.token_system.specs.declared.cell.Kind.{Kind}
 use Rattle.token_system.specs.declared.cell.Kind.TheVariants as kind
-use Rattle.program_grammar.specs.Phrases.{Token, Asserts, Denies, Clashes, AtLeast, AtMost, Exactly, Constraint, One, Both, Unit', Nothing, Tell, Braces, IfThen, IfElse, LocalSignal, LocalInt, Henceforth, AtNext, Ever, Whenever, Watch, Timed, Agent, Only, Par, Names, LastName, MoreName, Items, LastItem, MoreItem, Program, Runs, Signals, Ints}
+use Rattle.program_grammar.specs.Phrases.{TokenPhrase, AtLeast, AtMost, Exactly, ConstraintPhrase, One, Both, UnitPhrase, Tell, Braces, IfThen, IfElse, LocalSignal, LocalInt, AgentPhrase, Only, Par, NamesPhrase, LastName, MoreName, ItemsPhrase, LastItem, MoreItem, ProgramPhrase, Runs, Signals, Ints}
+use Rattle.program_grammar.specs.Phrases as phrase
 use Rattle.tdcc_reader.specs.declared.naming.NameFault.{NameFault}
 use Rattle.tdcc_reader.specs.declared.naming.NameFault.TheVariants.{DoubleName, EmptyDomain, UnknownName, WrongKind}
 use Rattle.tdcc_reader.specs.Limits.{first}
@@ -58,16 +59,16 @@ abbrev pub any_use : List Known → List ℕ → ℕ → Option NameFault
 any_use scope x at = unknown_fault (kind_of scope x) at
 
 -- the first fault of a token under these names, at this place
-abbrev pub token_fault : Token → List Known → ℕ → Option NameFault
-token_fault (Asserts x) scope at = signal_use scope x at
-token_fault (Denies x) scope at = signal_use scope x (at + 1)
-token_fault (Clashes x) scope at = any_use scope x (at + 1)
+abbrev pub token_fault : TokenPhrase → List Known → ℕ → Option NameFault
+token_fault (phrase.On x) scope at = signal_use scope x at
+token_fault (phrase.Off x) scope at = signal_use scope x (at + 1)
+token_fault (phrase.Clash x) scope at = any_use scope x (at + 1)
 token_fault (AtLeast x n) scope at = number_use scope x at
 token_fault (AtMost x n) scope at = number_use scope x at
 token_fault (Exactly x n) scope at = number_use scope x at
 
 -- of a constraint
-abbrev pub constraint_fault : Constraint → List Known → ℕ → Option NameFault
+abbrev pub constraint_fault : ConstraintPhrase → List Known → ℕ → Option NameFault
 constraint_fault (One t) scope at = token_fault t scope at
 constraint_fault (Both t c) scope at = first (token_fault t scope at) (constraint_fault c scope (at + token_width t + 1))
 
@@ -81,52 +82,52 @@ item_fault x low high scope at = first (declared_fault x scope at) (domain_fault
 
 abbrev mutual
   -- of a unit
-  pub unit_fault : Unit' → List Known → ℕ → Option NameFault
-  unit_fault Nothing scope at = None
+  pub unit_fault : UnitPhrase → List Known → ℕ → Option NameFault
+  unit_fault phrase.Skip scope at = None
   unit_fault (Tell c) scope at = constraint_fault c scope at
   unit_fault (Braces a) scope at = agent_fault a scope (at + 1)
   unit_fault (IfThen c u) scope at = first (constraint_fault c scope (at + 1)) (unit_fault u scope (at + 1 + constraint_width c + 1))
   unit_fault (IfElse c u) scope at = first (constraint_fault c scope (at + 1)) (unit_fault u scope (at + 1 + constraint_width c + 1))
   unit_fault (LocalSignal x u) scope at = first (declared_fault x scope (at + 2)) (unit_fault u (known x kind.Signal ∷ scope) (at + 4))
   unit_fault (LocalInt x l h u) scope at = first (item_fault x l h scope (at + 2)) (unit_fault u (known x kind.Number ∷ scope) (at + 8))
-  unit_fault (Henceforth u) scope at = unit_fault u scope (at + 1)
-  unit_fault (AtNext u) scope at = unit_fault u scope (at + 1)
-  unit_fault (Ever u) scope at = unit_fault u scope (at + 1)
-  unit_fault (Whenever c u) scope at = first (constraint_fault c scope (at + 1)) (unit_fault u scope (at + 1 + constraint_width c + 1))
-  unit_fault (Watch a c) scope at = first (agent_fault a scope (at + 1)) (constraint_fault c scope (at + 1 + agent_width a + 1))
-  unit_fault (Timed a c) scope at = first (agent_fault a scope (at + 1)) (constraint_fault c scope (at + 1 + agent_width a + 1))
+  unit_fault (phrase.Hence u) scope at = unit_fault u scope (at + 1)
+  unit_fault (phrase.Next u) scope at = unit_fault u scope (at + 1)
+  unit_fault (phrase.Always u) scope at = unit_fault u scope (at + 1)
+  unit_fault (phrase.When c u) scope at = first (constraint_fault c scope (at + 1)) (unit_fault u scope (at + 1 + constraint_width c + 1))
+  unit_fault (phrase.Watching a c) scope at = first (agent_fault a scope (at + 1)) (constraint_fault c scope (at + 1 + agent_width a + 1))
+  unit_fault (phrase.TimeOn a c) scope at = first (agent_fault a scope (at + 1)) (constraint_fault c scope (at + 1 + agent_width a + 1))
 
   -- of an agent
-  pub agent_fault : Agent → List Known → ℕ → Option NameFault
+  pub agent_fault : AgentPhrase → List Known → ℕ → Option NameFault
   agent_fault (Only u) scope at = unit_fault u scope at
   agent_fault (Par u a) scope at = first (unit_fault u scope at) (agent_fault a scope (at + unit_width u + 1))
 
 -- of the names of signals, each in scope behind it
-abbrev pub names_fault : Names → List Known → ℕ → Option NameFault
+abbrev pub names_fault : NamesPhrase → List Known → ℕ → Option NameFault
 names_fault (LastName x) scope at = declared_fault x scope at
 names_fault (MoreName x ns) scope at = first (declared_fault x scope at) (names_fault ns (known x kind.Signal ∷ scope) (at + 2))
 
 -- the names in scope behind them
-abbrev pub names_known : Names → List Known → List Known
+abbrev pub names_known : NamesPhrase → List Known → List Known
 names_known (LastName x) scope = known x kind.Signal ∷ scope
 names_known (MoreName x ns) scope = names_known ns (known x kind.Signal ∷ scope)
 
 -- of the names of integers
-abbrev pub items_fault : Items → List Known → ℕ → Option NameFault
+abbrev pub items_fault : ItemsPhrase → List Known → ℕ → Option NameFault
 items_fault (LastItem x l h) scope at = item_fault x l h scope at
 items_fault (MoreItem x l h is) scope at = first (item_fault x l h scope at) (items_fault is (known x kind.Number ∷ scope) (at + 6))
 
 -- the names in scope behind them
-abbrev pub items_known : Items → List Known → List Known
+abbrev pub items_known : ItemsPhrase → List Known → List Known
 items_known (LastItem x l h) scope = known x kind.Number ∷ scope
 items_known (MoreItem x l h is) scope = items_known is (known x kind.Number ∷ scope)
 
 -- of declarations and an agent under these names, from this place on
-abbrev pub fault_from : Program → List Known → ℕ → Option NameFault
+abbrev pub fault_from : ProgramPhrase → List Known → ℕ → Option NameFault
 fault_from (Runs a) scope at = agent_fault a scope at
 fault_from (Signals ns p) scope at = first (names_fault ns scope (at + 1)) (fault_from p (names_known ns scope) (at + 1 + names_width ns))
 fault_from (Ints is p) scope at = first (items_fault is scope (at + 1)) (fault_from p (items_known is scope) (at + 1 + items_width is))
 
 -- the first fault of a program's names
-abbrev pub program_fault : Program → Option NameFault
+abbrev pub program_fault : ProgramPhrase → Option NameFault
 program_fault p = fault_from p [] 0

@@ -8,7 +8,8 @@ use Rattle.token_system.specs.declared.cell.Kind.TheVariants as kind
 use Rattle.token_system.specs.declared.cell.Token.TheVariants as token
 use Rattle.token_system.specs.Domain.{is_cell}
 use Rattle.agent_core.specs.declared.node.CellDecl.{CellDecl}
-use Rattle.program_grammar.specs.Phrases.{Token, Asserts, Denies, Clashes, AtLeast, AtMost, Exactly, Constraint, One, Both, Unit', Nothing, Tell, Braces, IfThen, IfElse, LocalSignal, LocalInt, Henceforth, AtNext, Ever, Whenever, Watch, Timed, Agent, Only, Par, Names, LastName, MoreName, Items, LastItem, MoreItem, Program, Runs, Signals, Ints}
+use Rattle.program_grammar.specs.Phrases.{TokenPhrase, AtLeast, AtMost, Exactly, ConstraintPhrase, One, Both, UnitPhrase, Tell, Braces, IfThen, IfElse, LocalSignal, LocalInt, AgentPhrase, Only, Par, NamesPhrase, LastName, MoreName, ItemsPhrase, LastItem, MoreItem, ProgramPhrase, Runs, Signals, Ints}
+use Rattle.program_grammar.specs.Phrases as phrase
 use Rattle.tdcc_reader.specs.declared.surface.Form.{Form}
 use Rattle.tdcc_reader.specs.Trees as tree
 
@@ -50,95 +51,95 @@ abbrev pub cell_view : CellDecl → Declared
 cell_view d = declared_as d.name d.cell
 
 -- the tokens of a written token, of a constraint
-abbrev pub token_ask : List Placed → Token → tree.Ask
-token_ask scope (Asserts x) = (cell_of scope x, token.On) ∷ []
-token_ask scope (Denies x) = (cell_of scope x, token.Off) ∷ []
-token_ask scope (Clashes x) = (cell_of scope x, token.Clash) ∷ []
+abbrev pub token_ask : List Placed → TokenPhrase → tree.Ask
+token_ask scope (phrase.On x) = (cell_of scope x, token.On) ∷ []
+token_ask scope (phrase.Off x) = (cell_of scope x, token.Off) ∷ []
+token_ask scope (phrase.Clash x) = (cell_of scope x, token.Clash) ∷ []
 token_ask scope (AtLeast x n) = (cell_of scope x, token.AtLeast n) ∷ []
 token_ask scope (AtMost x n) = (cell_of scope x, token.AtMost n) ∷ []
 token_ask scope (Exactly x n) = (cell_of scope x, token.AtLeast n) ∷ (cell_of scope x, token.AtMost n) ∷ []
 
-abbrev pub ask_of : List Placed → Constraint → tree.Ask
+abbrev pub ask_of : List Placed → ConstraintPhrase → tree.Ask
 ask_of scope (One t) = token_ask scope t
 ask_of scope (Both t c) = token_ask scope t ++ ask_of scope c
 
 abbrev mutual
   -- the local cells of a unit, in order
-  pub unit_cells : Unit' → List Declared
-  unit_cells Nothing = []
+  pub unit_cells : UnitPhrase → List Declared
+  unit_cells phrase.Skip = []
   unit_cells (Tell c) = []
   unit_cells (Braces a) = agent_cells a
   unit_cells (IfThen c u) = unit_cells u
   unit_cells (IfElse c u) = unit_cells u
   unit_cells (LocalSignal x u) = signal x ∷ unit_cells u
   unit_cells (LocalInt x l h u) = number x l h ∷ unit_cells u
-  unit_cells (Henceforth u) = unit_cells u
-  unit_cells (AtNext u) = unit_cells u
-  unit_cells (Ever u) = unit_cells u
-  unit_cells (Whenever c u) = unit_cells u
-  unit_cells (Watch a c) = agent_cells a
-  unit_cells (Timed a c) = agent_cells a
+  unit_cells (phrase.Hence u) = unit_cells u
+  unit_cells (phrase.Next u) = unit_cells u
+  unit_cells (phrase.Always u) = unit_cells u
+  unit_cells (phrase.When c u) = unit_cells u
+  unit_cells (phrase.Watching a c) = agent_cells a
+  unit_cells (phrase.TimeOn a c) = agent_cells a
 
   -- of an agent
-  pub agent_cells : Agent → List Declared
+  pub agent_cells : AgentPhrase → List Declared
   agent_cells (Only u) = unit_cells u
   agent_cells (Par u a) = unit_cells u ++ agent_cells a
 
 abbrev mutual
   -- the tree of a unit under these names, where so many cells stand before its own
-  pub unit_tree : Unit' → List Placed → ℕ → tree.Tree
-  unit_tree Nothing scope n = tree.Skip
+  pub unit_tree : UnitPhrase → List Placed → ℕ → tree.Tree
+  unit_tree phrase.Skip scope n = tree.Skip
   unit_tree (Tell c) scope n = tree.Tell (ask_of scope c)
   unit_tree (Braces a) scope n = agent_tree a scope n
   unit_tree (IfThen c u) scope n = tree.Then (ask_of scope c) (unit_tree u scope n)
   unit_tree (IfElse c u) scope n = tree.Else (ask_of scope c) (unit_tree u scope n)
   unit_tree (LocalSignal x u) scope n = tree.New n (unit_tree u (placed x n ∷ scope) (n + 1))
   unit_tree (LocalInt x l h u) scope n = tree.New n (unit_tree u (placed x n ∷ scope) (n + 1))
-  unit_tree (Henceforth u) scope n = tree.Hence (unit_tree u scope n)
-  unit_tree (AtNext u) scope n = tree.Next (unit_tree u scope n)
-  unit_tree (Ever u) scope n = tree.Always (unit_tree u scope n)
-  unit_tree (Whenever c u) scope n = tree.When (ask_of scope c) (unit_tree u scope n)
-  unit_tree (Watch a c) scope n = tree.Watch (agent_tree a scope n) (ask_of scope c)
-  unit_tree (Timed a c) scope n = tree.Time (agent_tree a scope n) (ask_of scope c)
+  unit_tree (phrase.Hence u) scope n = tree.Hence (unit_tree u scope n)
+  unit_tree (phrase.Next u) scope n = tree.Next (unit_tree u scope n)
+  unit_tree (phrase.Always u) scope n = tree.Always (unit_tree u scope n)
+  unit_tree (phrase.When c u) scope n = tree.When (ask_of scope c) (unit_tree u scope n)
+  unit_tree (phrase.Watching a c) scope n = tree.Watch (agent_tree a scope n) (ask_of scope c)
+  unit_tree (phrase.TimeOn a c) scope n = tree.Time (agent_tree a scope n) (ask_of scope c)
 
   -- of an agent
-  pub agent_tree : Agent → List Placed → ℕ → tree.Tree
+  pub agent_tree : AgentPhrase → List Placed → ℕ → tree.Tree
   agent_tree (Only u) scope n = unit_tree u scope n
   agent_tree (Par u a) scope n = tree.Par (unit_tree u scope n) (agent_tree a scope (n + length (unit_cells u)))
 
 -- the declared cells, and the names in scope behind a declaration
-abbrev pub names_cells : Names → List Declared
+abbrev pub names_cells : NamesPhrase → List Declared
 names_cells (LastName x) = signal x ∷ []
 names_cells (MoreName x ns) = signal x ∷ names_cells ns
 
-abbrev pub names_scope : Names → List Placed → ℕ → List Placed
+abbrev pub names_scope : NamesPhrase → List Placed → ℕ → List Placed
 names_scope (LastName x) scope n = placed x n ∷ scope
 names_scope (MoreName x ns) scope n = names_scope ns (placed x n ∷ scope) (n + 1)
 
-abbrev pub items_cells : Items → List Declared
+abbrev pub items_cells : ItemsPhrase → List Declared
 items_cells (LastItem x l h) = number x l h ∷ []
 items_cells (MoreItem x l h is) = number x l h ∷ items_cells is
 
-abbrev pub items_scope : Items → List Placed → ℕ → List Placed
+abbrev pub items_scope : ItemsPhrase → List Placed → ℕ → List Placed
 items_scope (LastItem x l h) scope n = placed x n ∷ scope
 items_scope (MoreItem x l h is) scope n = items_scope is (placed x n ∷ scope) (n + 1)
 
 -- the tree of declarations and an agent
-abbrev pub tree_from : Program → List Placed → ℕ → tree.Tree
+abbrev pub tree_from : ProgramPhrase → List Placed → ℕ → tree.Tree
 tree_from (Runs a) scope n = agent_tree a scope n
 tree_from (Signals ns p) scope n = tree_from p (names_scope ns scope n) (n + length (names_cells ns))
 tree_from (Ints is p) scope n = tree_from p (items_scope is scope n) (n + length (items_cells is))
 
-abbrev pub program_tree : Program → tree.Tree
+abbrev pub program_tree : ProgramPhrase → tree.Tree
 program_tree p = tree_from p [] 0
 
 -- the declared cells of a program, and all of its cells
-abbrev pub declared_cells : Program → List Declared
+abbrev pub declared_cells : ProgramPhrase → List Declared
 declared_cells (Runs a) = []
 declared_cells (Signals ns p) = names_cells ns ++ declared_cells p
 declared_cells (Ints is p) = items_cells is ++ declared_cells p
 
-abbrev pub program_cells : Program → List Declared
+abbrev pub program_cells : ProgramPhrase → List Declared
 program_cells (Runs a) = agent_cells a
 program_cells (Signals ns p) = names_cells ns ++ program_cells p
 program_cells (Ints is p) = items_cells is ++ program_cells p
@@ -149,7 +150,7 @@ pub record SurfaceProgram : Type 0 where
   pub forms : List Form
 
 -- this is the surface of the program
-pub record IsSurfaceOf (p : Program) (s : SurfaceProgram) : Type 0 where
+pub record IsSurfaceOf (p : ProgramPhrase) (s : SurfaceProgram) : Type 0 where
   pub cells : map cell_view s.cells ≡ program_cells p
   pub declared : s.declared ≡ length (declared_cells p)
   pub forms : s.forms ≡ tree.listing 0 (program_tree p)

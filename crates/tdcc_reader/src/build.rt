@@ -1,6 +1,6 @@
 // The drafts of a program, from its steps.
 ghost use Rattle.std.specs.Prelude.{◌≡◌, ◌∷◌, ◌≤◌, [], IfOk, OnOk, length, map};
-ghost use Rattle.program_grammar.specs.Phrases.{Program};
+ghost use Rattle.program_grammar.specs.Phrases.{ProgramPhrase};
 ghost use Rattle.program_grammar.specs.Programs.{Spells};
 ghost use Rattle.program_grammar.specs.Reading.{AreSteps};
 ghost use Rattle.program_grammar.specs.declared.words.Language.{Language};
@@ -352,7 +352,7 @@ pub(crate) fn build<'a>(
     terms: &[Term<'a>],
     steps: &[Step],
 ) -> Result<Builder<'a>, AllocError>
-    ensures { (language : Language) (p : Program) → Spells language p (map term_view terms.now) → AreSteps p steps.now
+    ensures { (language : Language) (p : ProgramPhrase) → Spells language p (map term_view terms.now) → AreSteps p steps.now
         → length (program_cells p) ≤ 4294967295
         → IfOk result (λ b. IsBuilt p (built_view b)) }
 {

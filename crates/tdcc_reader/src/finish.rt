@@ -1,6 +1,6 @@
 // What is read of a text, from what is built.
 ghost use Rattle.std.specs.Prelude.{◌≡◌, ℕ, List, IfErr, IfOk};
-ghost use Rattle.program_grammar.specs.Phrases.{Program};
+ghost use Rattle.program_grammar.specs.Phrases.{ProgramPhrase};
 ghost use Rattle.tdcc_reader.specs.BuildPass.{built_view};
 ghost use Rattle.tdcc_reader.specs.Builds.{IsReady};
 ghost use Rattle.tdcc_reader.specs.Parts.{surface_of};
@@ -16,8 +16,8 @@ use std::alloc::Global;
 
 /// The parts of the program that is built.
 pub(crate) fn finish(alloc: Global, built: Builder<'_>) -> Result<Parts, ReadFault>
-    requires { (dialect : Dialect) × (text : List ℕ) × (p : Program) × IsReady dialect text p (built_view built) }
-    ensures found { (dialect : Dialect) (text : List ℕ) (p : Program) → IsReady dialect text p (built_view built.entry)
+    requires { (dialect : Dialect) × (text : List ℕ) × (p : ProgramPhrase) × IsReady dialect text p (built_view built) }
+    ensures found { (dialect : Dialect) (text : List ℕ) (p : ProgramPhrase) → IsReady dialect text p (built_view built.entry)
         → IfOk result (λ parts. IsSurfaceOf p (surface_of parts)) }
     ensures fault { IfErr result (λ fault. fault ≡ ReadFault.Memory) }
 {

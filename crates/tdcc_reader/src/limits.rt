@@ -1,6 +1,6 @@
 // The limits of a program of a dialect: the first unit that is too deep, or the first token that is one too many.
 ghost use Rattle.std.specs.Prelude.{◌≡◌, ◌<◌, ◌^◌, IfErr, IfOk, IsOk, None, if◌then◌else◌, map};
-ghost use Rattle.program_grammar.specs.Phrases.{Program};
+ghost use Rattle.program_grammar.specs.Phrases.{ProgramPhrase};
 ghost use Rattle.program_grammar.specs.Programs.{Spells};
 ghost use Rattle.program_grammar.specs.Reading.{AreSteps};
 ghost use Rattle.program_grammar.specs.declared.words.Language.{Language};
@@ -174,7 +174,7 @@ fn first_limit(dialect: Dialect, terms: &[Term<'_>], steps: &[Step]) -> Option<L
 
 /// What the program of these terms and steps goes past first.
 fn past_limit(dialect: Dialect, terms: &[Term<'_>], steps: &[Step]) -> Option<Limit>
-    ensures { (language : Language) (p : Program) → Spells language p (map term_view terms.now) → AreSteps p steps.now
+    ensures { (language : Language) (p : ProgramPhrase) → Spells language p (map term_view terms.now) → AreSteps p steps.now
         → result ≡ program_limit dialect p }
 {
     places_law();
@@ -187,11 +187,11 @@ pub(crate) fn check_limits(
     terms: &[Term<'_>],
     steps: &[Step],
 ) -> Result<(), ReadFault>
-    ensures kept { (language : Language) (p : Program) → Spells language p (map term_view terms.now) → AreSteps p steps.now
+    ensures kept { (language : Language) (p : ProgramPhrase) → Spells language p (map term_view terms.now) → AreSteps p steps.now
         → IfOk result (λ _. program_limit dialect p ≡ None) }
-    ensures fault { (language : Language) (p : Program) → Spells language p (map term_view terms.now) → AreSteps p steps.now
+    ensures fault { (language : Language) (p : ProgramPhrase) → Spells language p (map term_view terms.now) → AreSteps p steps.now
         → IfErr result (RefusesLimits dialect p) }
-    ensures only { (language : Language) (p : Program) → Spells language p (map term_view terms.now) → AreSteps p steps.now
+    ensures only { (language : Language) (p : ProgramPhrase) → Spells language p (map term_view terms.now) → AreSteps p steps.now
         → program_limit dialect p ≡ None → IsOk result }
 {
     match past_limit(dialect, terms, steps) {

@@ -1,7 +1,7 @@
 // The names of a program: the first one that is declared twice, not at all or as something else, or the first empty
 // domain.
 ghost use Rattle.std.specs.Prelude.{◌≡◌, IfErr, IfOk, None, OnOk, [], map};
-ghost use Rattle.program_grammar.specs.Phrases.{Program};
+ghost use Rattle.program_grammar.specs.Phrases.{ProgramPhrase};
 ghost use Rattle.program_grammar.specs.Programs.{Spells};
 ghost use Rattle.program_grammar.specs.Reading.{AreSteps};
 ghost use Rattle.program_grammar.specs.declared.words.Language.{Language};
@@ -251,7 +251,7 @@ fn name_fault(
     terms: &[Term<'_>],
     steps: &[Step],
 ) -> Result<Option<NameFault>, AllocError>
-    ensures { (language : Language) (p : Program) → Spells language p (map term_view terms.now) → AreSteps p steps.now
+    ensures { (language : Language) (p : ProgramPhrase) → Spells language p (map term_view terms.now) → AreSteps p steps.now
         → IfOk result (λ found. found ≡ program_fault p) }
 {
     places_law();
@@ -264,11 +264,11 @@ pub(crate) fn check_names(
     terms: &[Term<'_>],
     steps: &[Step],
 ) -> Result<(), ReadFault>
-    ensures kept { (language : Language) (p : Program) → Spells language p (map term_view terms.now) → AreSteps p steps.now
+    ensures kept { (language : Language) (p : ProgramPhrase) → Spells language p (map term_view terms.now) → AreSteps p steps.now
         → IfOk result (λ _. program_fault p ≡ None) }
-    ensures fault { (language : Language) (p : Program) → Spells language p (map term_view terms.now) → AreSteps p steps.now
+    ensures fault { (language : Language) (p : ProgramPhrase) → Spells language p (map term_view terms.now) → AreSteps p steps.now
         → IfErr result (RefusesNames p) }
-    ensures only { (language : Language) (p : Program) → Spells language p (map term_view terms.now) → AreSteps p steps.now
+    ensures only { (language : Language) (p : ProgramPhrase) → Spells language p (map term_view terms.now) → AreSteps p steps.now
         → program_fault p ≡ None → IfErr result (λ fault. fault ≡ ReadFault.Memory) }
 {
     match name_fault(alloc, terms, steps) {

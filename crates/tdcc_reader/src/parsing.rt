@@ -1,6 +1,6 @@
 // The steps of a program of a dialect, with the refusals of its grammar.
 ghost use Rattle.std.specs.Prelude.{◌≡◌, ◌≤◌, ◌<◌, ◌^◌, IfErr, IfOk, MatchResult, length, map, position};
-ghost use Rattle.program_grammar.specs.Phrases.{Program};
+ghost use Rattle.program_grammar.specs.Phrases.{ProgramPhrase};
 ghost use Rattle.program_grammar.specs.Reading.{AreSteps};
 ghost use Rattle.tdcc_reader.specs.Refusals.{IsProgramOf, RefusesTerms};
 ghost use Rattle.tdcc_reader.specs.declared.fault.ReadFault as ReadFault;
@@ -35,10 +35,10 @@ pub(crate) fn read_steps(
     terms: &[Term<'_>],
 ) -> Result<Vec<Step>, ReadFault>
     requires { length terms.now ≤ MAX_TEXT }
-    ensures found { IfOk result (λ steps. (p : Program) ×
+    ensures found { IfOk result (λ steps. (p : ProgramPhrase) ×
         IsProgramOf dialect (map term_view terms.now) p × AreSteps p steps.items) }
     ensures fault { IfErr result (RefusesTerms dialect (map term_view terms.now)) }
-    ensures only { (p : Program) → IsProgramOf dialect (map term_view terms.now) p
+    ensures only { (p : ProgramPhrase) → IsProgramOf dialect (map term_view terms.now) p
         → MatchResult result (λ steps. AreSteps p steps.items) (λ fault. fault ≡ ReadFault.Memory) }
 {
     let words = words(alloc, terms)?;

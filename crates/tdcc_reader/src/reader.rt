@@ -1,6 +1,6 @@
 // A text, read.
 ghost use Rattle.std.specs.Prelude.{◌≡◌, ◌≤◌, IfErr, IfOk, MatchResult, None, length, map};
-ghost use Rattle.program_grammar.specs.Phrases.{Program};
+ghost use Rattle.program_grammar.specs.Phrases.{ProgramPhrase};
 ghost use Rattle.program_grammar.specs.Reading.{AreSteps};
 ghost use Rattle.tdcc_reader.specs.BuildPass.{built_view};
 ghost use Rattle.tdcc_reader.specs.Builds.{IsChecked};
@@ -38,11 +38,11 @@ fn build_checked<'a>(
     steps: &[Step],
 ) -> Result<Builder<'a>, ReadFault>
     requires { length terms.now ≤ MAX_TEXT }
-    ensures found { (p : Program) → IsProgramOf dialect (map term_view terms.now) p → AreSteps p steps.now
+    ensures found { (p : ProgramPhrase) → IsProgramOf dialect (map term_view terms.now) p → AreSteps p steps.now
         → IfOk result (λ b. IsChecked dialect p (built_view b)) }
-    ensures fault { (p : Program) → IsProgramOf dialect (map term_view terms.now) p → AreSteps p steps.now
+    ensures fault { (p : ProgramPhrase) → IsProgramOf dialect (map term_view terms.now) p → AreSteps p steps.now
         → IfErr result (RefusesTerms dialect (map term_view terms.now)) }
-    ensures only { (p : Program) → IsProgramOf dialect (map term_view terms.now) p → AreSteps p steps.now
+    ensures only { (p : ProgramPhrase) → IsProgramOf dialect (map term_view terms.now) p → AreSteps p steps.now
         → program_limit dialect p ≡ None → program_fault p ≡ None → length (declared_cells p) ≤ 256
         → IfErr result (λ fault. fault ≡ ReadFault.Memory) }
 {
@@ -66,7 +66,7 @@ pub fn read_text(alloc: Global, dialect: Dialect, text: &[u8]) -> Result<Parts, 
     // A refusal is the first one, at its place.
     ensures fault { IfErr result (Refuses dialect text.now) }
     // A text that nothing refuses is read, as the one program that it is.
-    ensures only { (p : Program) → Accepts dialect text.now p
+    ensures only { (p : ProgramPhrase) → Accepts dialect text.now p
         → MatchResult result (λ parts. IsSurfaceOf p (surface_of parts)) (λ fault. fault ≡ ReadFault.Memory) }
 {
     let terms = read_terms(alloc, dialect, text)?;
@@ -86,7 +86,7 @@ pub fn read_program(alloc: Global, text: &[u8]) -> Result<Surface, ReadFault>
     // A refusal is the first one, at its place.
     ensures fault { IfErr result (Refuses Dialect.Program text.now) }
     // A text that nothing refuses is read, as the one program that it is.
-    ensures only { (p : Program) → Accepts Dialect.Program text.now p
+    ensures only { (p : ProgramPhrase) → Accepts Dialect.Program text.now p
         → MatchResult result (IsSurfaceOf p) (λ fault. fault ≡ ReadFault.Memory) }
 {
     let parts = read_text(alloc, Dialect::Program, text)?;

@@ -11,7 +11,7 @@ use Rattle.tdcc_reader.specs.Surfaces.{SurfaceProgram, IsSurfaceOf}
 use Rattle.tdcc_reader.specs.Texts.{ReadsAs}
 use Rattle.tdcc_reader.specs.declared.surface.Form.{Form}
 use Rattle.tdcc_reader.proofs.OneRefusal.{one_accepted as one_phrase, one_refusal, read_not_refused}
-use Rattle.program_grammar.specs.Phrases.{Program as Phrase}
+use Rattle.program_grammar.specs.Phrases.{ProgramPhrase as Phrase}
 use Rattle.agent_core.specs.declared.node.CellDecl.{CellDecl}
 use Rattle.surface_laws.proofs.CellViews.{same_cells}
 use Rattle.surface_laws.proofs.WellFormed.{surface_formed}
