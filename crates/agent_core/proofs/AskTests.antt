@@ -16,7 +16,7 @@ use Rattle.token_system.specs.Stores.{Valuation, value_at, store_entails, CanHol
 use Rattle.token_system.proofs.Alike.{true_false}
 use Rattle.agent_core.specs.declared.node.CellDecl.{CellDecl}
 use Rattle.agent_core.specs.Programs.{CoreProgram}
-use Rattle.agent_core.specs.Agents.{Ask}
+use Rattle.agent_core.specs.Agents.{Constraint}
 use Rattle.agent_core.specs.Names.{Names, name_of}
 use Rattle.agent_core.specs.Stores.{IsStore}
 use Rattle.agent_core.specs.Scope.{TokenFits, AskFits}
@@ -63,11 +63,11 @@ module _ (p : CoreProgram) (b : List ℕ) (u : Valuation) (cell : ℕ) (t : Toke
       ∙ ap (λ (o : Option CellDecl). holds_at o p b u cell t) (sym f.found)
 
 -- what is left of the tokens decides the test of all
-pub record IsLeft (p : CoreProgram) (b : List ℕ) (u : Valuation) (items : Ask) (i : ℕ) : Type 0 where
+pub record IsLeft (p : CoreProgram) (b : List ℕ) (u : Valuation) (items : Constraint) (i : ℕ) : Type 0 where
   pub same : entails p b u (drop i items) ≡ entails p b u items
   pub fits : AskFits p b (drop i items)
 
-module _ (p : CoreProgram) (b : List ℕ) (u : Valuation) (items : Ask) (i : ℕ) (left : IsLeft p b u items i) where
+module _ (p : CoreProgram) (b : List ℕ) (u : Valuation) (items : Constraint) (i : ℕ) (left : IsLeft p b u items i) where
   first_fits : (pair : ℕ × Token) → i < length items → TokenFits p b (get_or items i pair) × AskFits p b (drop (i + 1) items)
   first_fits pair lt = subst (AskFits p b) (drop_more items i pair lt) left.fits
 
@@ -83,8 +83,8 @@ module _ (p : CoreProgram) (b : List ℕ) (u : Valuation) (items : Ask) (i : ℕ
     fits = (first_fits pair lt).1;
   }
 
-  pub one_fails : (pair : ℕ × Token) → i < length items → (r : Bool) → r ≡ holds p b u (get_or items i pair) → r ≡ false → (c : Ask) → items ≡ c → false ≡ entails p b u c
+  pub one_fails : (pair : ℕ × Token) → i < length items → (r : Bool) → r ≡ holds p b u (get_or items i pair) → r ≡ false → (c : Constraint) → items ≡ c → false ≡ entails p b u c
   one_fails pair lt r e h c same = ap (λ (x : Bool). x && entails p b u (drop (i + 1) items)) (sym h ∙ e) ∙ first_tested pair lt ∙ ap (entails p b u) same
 
-  pub all_hold : length items ≤ i → (c : Ask) → items ≡ c → true ≡ entails p b u c
+  pub all_hold : length items ≤ i → (c : Constraint) → items ≡ c → true ≡ entails p b u c
   all_hold le c same = ap (entails p b u) (sym (drop_all i items le)) ∙ left.same ∙ ap (entails p b u) same

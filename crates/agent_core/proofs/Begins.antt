@@ -5,7 +5,7 @@ use Rattle.std.proofs.lemmas.List.{append-nil}
 use Rattle.std.proofs.lemmas.Bool.{eqb-true}
 use Rattle.agent_core.specs.declared.node.Node.{Node}
 use Rattle.agent_core.specs.declared.node.Node.TheVariants as nodes
-use Rattle.agent_core.specs.Agents.{Agent, Ask, Skip, Tell, Then, Else, Par, New, Hence, Next}
+use Rattle.agent_core.specs.Agents.{Agent, Constraint, Skip, Tell, Then, Else, Par, New, Hence, Next}
 use Rattle.agent_core.specs.Listing.{size, listing, IsListing}
 use Rattle.agent_core.proofs.ListingTrees.{length-listing, size-some, one_front}
 
@@ -15,7 +15,7 @@ listing_some n a r all z e = let h = ap length e in omega (arith, length-append 
 
 -- A LEAF
 
-pub leaf_some : (n : ℕ) (node : Node) (all rest : List Node) → (node ≡ nodes.Skip) ⊎ ((c : Ask) × (node ≡ nodes.Tell c)) → all ≡ node ∷ rest → (a : Agent) × (all ≡ listing n a ++ rest)
+pub leaf_some : (n : ℕ) (node : Node) (all rest : List Node) → (node ≡ nodes.Skip) ⊎ ((c : Constraint) × (node ≡ nodes.Tell c)) → all ≡ node ∷ rest → (a : Agent) × (all ≡ listing n a ++ rest)
 leaf_some n node all rest (inl is) e = (Skip, e ∙ ap (λ (x : Node). x ∷ rest) is)
 leaf_some n node all rest (inr is) e = (Tell is.0, e ∙ ap (λ (x : Node). x ∷ rest) is.1)
 
@@ -24,8 +24,8 @@ leaf_some n node all rest (inr is) e = (Tell is.0, e ∙ ap (λ (x : Node). x �
 -- the node has this one part
 abbrev pub HasBody : Node → ℕ → Type 0
 HasBody node body =
-    ((c : Ask) × (node ≡ nodes.Then c body))
-    ⊎ (((c : Ask) × (node ≡ nodes.Else c body)) ⊎ (((cell : ℕ) × (node ≡ nodes.New cell body)) ⊎ ((node ≡ nodes.Hence body) ⊎ (node ≡ nodes.Next body))))
+    ((c : Constraint) × (node ≡ nodes.Then c body))
+    ⊎ (((c : Constraint) × (node ≡ nodes.Else c body)) ⊎ (((cell : ℕ) × (node ≡ nodes.New cell body)) ⊎ ((node ≡ nodes.Hence body) ⊎ (node ≡ nodes.Next body))))
 
 abbrev only_part : Node → Option ℕ
 only_part (nodes.Then c body) = Some body

@@ -2,7 +2,7 @@
 use Rattle.std.proofs.Common.{◌≡◌, ℕ, suc, ◌+◌, ◌-◌, ◌<◌, ◌≤◌, List, Some, length, get_or, refl, ap, ◌∙◌, subst, arith, ◌⊎◌, inl, inr}
 use Rattle.agent_core.specs.declared.node.Node.{Node}
 use Rattle.agent_core.specs.declared.node.Node.TheVariants as nodes
-use Rattle.agent_core.specs.Agents.{Ask, agent_at}
+use Rattle.agent_core.specs.Agents.{Constraint, agent_at}
 use Rattle.agent_core.specs.Listing.{size, IsListing}
 use Rattle.agent_core.specs.Names.{depth_of}
 use Rattle.std.proofs.lemmas.Option.{slice_get_read}
@@ -49,14 +49,14 @@ module _ (all : List Node) (w : IsListing all) (wanted at depth : ℕ) (inside :
       let above = here.above in let below = here.below in
       down m n part (omega (arith, more)) (omega arith) shallow
 
-  pub not_leaf : (d ≡ nodes.Skip) ⊎ ((c : Ask) × (d ≡ nodes.Tell c)) → ⊥
+  pub not_leaf : (d ≡ nodes.Skip) ⊎ ((c : Constraint) × (d ≡ nodes.Tell c)) → ⊥
   not_leaf (inl e) = let one = ap size (facts nodes.Skip e).tree in let above = here.above in let below = here.below in omega (arith, more)
   not_leaf (inr e) = let one = ap size (facts (nodes.Tell e.0) e.1).tree in let above = here.above in let below = here.below in omega (arith, more)
 
   at_depth : (m : ℕ) → IsPart all at (depth_of all at) m → IsPart all at depth m
   at_depth m part = subst (λ (k : ℕ). IsPart all at k m) here.deep part
 
-  pub to_body : (body : ℕ) → ((c : Ask) × (d ≡ nodes.Then c body)) ⊎ (((c : Ask) × (d ≡ nodes.Else c body)) ⊎ ((d ≡ nodes.Hence body) ⊎ (d ≡ nodes.Next body))) → IsNearer all wanted at body depth
+  pub to_body : (body : ℕ) → ((c : Constraint) × (d ≡ nodes.Then c body)) ⊎ (((c : Constraint) × (d ≡ nodes.Else c body)) ⊎ ((d ≡ nodes.Hence body) ⊎ (d ≡ nodes.Next body))) → IsNearer all wanted at body depth
   to_body body (inl e) = let f = facts (nodes.Then e.0 body) e.1 in only body depth (at_depth body f.parts) f.follow (ap size f.tree) (omega arith)
   to_body body (inr (inl e)) = let f = facts (nodes.Else e.0 body) e.1 in only body depth (at_depth body f.parts) f.follow (ap size f.tree) (omega arith)
   to_body body (inr (inr (inl e))) = let f = facts (nodes.Hence body) e in only body depth (at_depth body f.parts) f.follow (ap size f.tree) (omega arith)

@@ -8,7 +8,7 @@ use Rattle.token_system.specs.Stores.{Valuation}
 use Rattle.agent_core.specs.declared.node.Node.{Node}
 use Rattle.agent_core.specs.declared.node.Node.TheVariants as nodes
 use Rattle.agent_core.specs.Programs.{CoreProgram}
-use Rattle.agent_core.specs.Agents.{Agent, Ask, agent_of, agent_at}
+use Rattle.agent_core.specs.Agents.{Agent, Constraint, agent_of, agent_at}
 use Rattle.agent_core.specs.Names.{IsClosure}
 use Rattle.agent_core.specs.Facts.{IsProgram}
 use Rattle.agent_core.specs.Rests.{◌⇒◌, entails, rests}
@@ -32,7 +32,7 @@ module _ (p : CoreProgram) (is : IsProgram p) (n : ℕ) (b : List ℕ) (closure 
   part : (m : ℕ) (births : List ℕ) → obs p m births s closed u v ≡ agent_obs p u v (w ∷ z) (agent_at p.nodes m) births s
   part m births = ap (λ (y : List Valuation). obs p m births s y u v) split
 
-  pub always-obs : (d : Node) → slice_get p.nodes n ≡ Some d → (d ≡ nodes.Skip) ⊎ ((c : Ask) × (d ≡ nodes.Tell c)) → true ≡ obs p n b s closed u v
+  pub always-obs : (d : Node) → slice_get p.nodes n ≡ Some d → (d ≡ nodes.Skip) ⊎ ((c : Constraint) × (d ≡ nodes.Tell c)) → true ≡ obs p n b s closed u v
   always-obs d found (inl e) = obs-node nodes.Skip (found ∙ ap Some e)
   always-obs d found (inr e) = obs-node (nodes.Tell e.0) (found ∙ ap Some e.1)
 
@@ -42,16 +42,16 @@ module _ (p : CoreProgram) (is : IsProgram p) (n : ℕ) (b : List ℕ) (closure 
   pub right-decides : (left right : ℕ) → slice_get p.nodes n ≡ Some (nodes.Par left right) → true ≡ obs p left b s closed u v → obs p right b s closed u v ≡ obs p n b s closed u v
   right-decides left right found l = part right b ∙ ap (λ (x : Bool). x && agent_obs p u v (w ∷ z) (agent_at p.nodes right) b s) (l ∙ part left b) ∙ obs-node (nodes.Par left right) found
 
-  pub then-waits : (c : Ask) (m : ℕ) → slice_get p.nodes n ≡ Some (nodes.Then c m) → false ≡ entails p b w c → true ≡ obs p n b s closed u v
+  pub then-waits : (c : Constraint) (m : ℕ) → slice_get p.nodes n ≡ Some (nodes.Then c m) → false ≡ entails p b w c → true ≡ obs p n b s closed u v
   then-waits c m found e = ap (λ (x : Bool). x ⇒ agent_obs p u v (w ∷ z) (agent_at p.nodes m) b s) e ∙ obs-node (nodes.Then c m) found
 
-  pub then-decides : (c : Ask) (m : ℕ) → slice_get p.nodes n ≡ Some (nodes.Then c m) → true ≡ entails p b w c → obs p m b s closed u v ≡ obs p n b s closed u v
+  pub then-decides : (c : Constraint) (m : ℕ) → slice_get p.nodes n ≡ Some (nodes.Then c m) → true ≡ entails p b w c → obs p m b s closed u v ≡ obs p n b s closed u v
   then-decides c m found e = part m b ∙ ap (λ (x : Bool). x ⇒ agent_obs p u v (w ∷ z) (agent_at p.nodes m) b s) e ∙ obs-node (nodes.Then c m) found
 
-  pub else-refuted : (c : Ask) (m : ℕ) → slice_get p.nodes n ≡ Some (nodes.Else c m) → true ≡ entails p b w c → true ≡ obs p n b s closed u v
+  pub else-refuted : (c : Constraint) (m : ℕ) → slice_get p.nodes n ≡ Some (nodes.Else c m) → true ≡ entails p b w c → true ≡ obs p n b s closed u v
   else-refuted c m found e = ap (λ (x : Bool). not x ⇒ agent_obs p u v (w ∷ z) (agent_at p.nodes m) b s) e ∙ obs-node (nodes.Else c m) found
 
-  pub else-decides : (c : Ask) (m : ℕ) → slice_get p.nodes n ≡ Some (nodes.Else c m) → false ≡ entails p b w c → obs p m b s closed u v ≡ obs p n b s closed u v
+  pub else-decides : (c : Constraint) (m : ℕ) → slice_get p.nodes n ≡ Some (nodes.Else c m) → false ≡ entails p b w c → obs p m b s closed u v ≡ obs p n b s closed u v
   else-decides c m found e = part m b ∙ ap (λ (x : Bool). not x ⇒ agent_obs p u v (w ∷ z) (agent_at p.nodes m) b s) e ∙ obs-node (nodes.Else c m) found
 
   pub new-obs : (cell m : ℕ) → slice_get p.nodes n ≡ Some (nodes.New cell m) → obs p m (b ++ s ∷ []) s closed u v ≡ obs p n b s closed u v

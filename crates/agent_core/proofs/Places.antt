@@ -4,7 +4,7 @@ use Rattle.std.specs.Prelude.{slice_get}
 use Rattle.std.proofs.lemmas.Option.{slice_get_within, get_or_from_slice_get}
 use Rattle.agent_core.specs.declared.node.Node.{Node}
 use Rattle.agent_core.specs.declared.node.Node.TheVariants as nodes
-use Rattle.agent_core.specs.Agents.{Agent, Ask, Skip, Tell, Then, Else, Par, New, Hence, Next, agent_of, agent_at}
+use Rattle.agent_core.specs.Agents.{Agent, Constraint, Skip, Tell, Then, Else, Par, New, Hence, Next, agent_of, agent_at}
 use Rattle.agent_core.specs.Listing.{size, listing, IsListing}
 use Rattle.agent_core.specs.Names.{depths, depth_of}
 use Rattle.agent_core.proofs.Parts.{EachPart, PartsFollow, IsPreorder, IsPart, depth_within}
@@ -16,8 +16,8 @@ use Rattle.agent_core.proofs.ListingTrees.{length-listing, size-some, left_liste
 
 -- what holds of a tree, by its number and the local cells around it, innermost first, holds of its parts
 pub record GoesDown (P : ℕ → List ℕ → Agent → Type 0) : Type 0 where
-  pub then_body : (n : ℕ) (locals : List ℕ) (c : Ask) (a : Agent) → P n locals (Then c a) → P (suc n) locals a
-  pub else_body : (n : ℕ) (locals : List ℕ) (c : Ask) (a : Agent) → P n locals (Else c a) → P (suc n) locals a
+  pub then_body : (n : ℕ) (locals : List ℕ) (c : Constraint) (a : Agent) → P n locals (Then c a) → P (suc n) locals a
+  pub else_body : (n : ℕ) (locals : List ℕ) (c : Constraint) (a : Agent) → P n locals (Else c a) → P (suc n) locals a
   pub left : (n : ℕ) (locals : List ℕ) (a b : Agent) → P n locals (Par a b) → P (suc n) locals a
   pub right : (n : ℕ) (locals : List ℕ) (a b : Agent) → P n locals (Par a b) → P (suc n + size a) locals b
   pub new_body : (n : ℕ) (locals : List ℕ) (cell : ℕ) (a : Agent) → P n locals (New cell a) → P (suc n) (cell ∷ locals) a

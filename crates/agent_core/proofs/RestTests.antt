@@ -6,7 +6,7 @@ use Rattle.token_system.specs.Stores.{Valuation}
 use Rattle.agent_core.specs.declared.node.Node.{Node}
 use Rattle.agent_core.specs.declared.node.Node.TheVariants as nodes
 use Rattle.agent_core.specs.Programs.{CoreProgram}
-use Rattle.agent_core.specs.Agents.{Agent, Ask, agent_of, agent_at}
+use Rattle.agent_core.specs.Agents.{Agent, Constraint, agent_of, agent_at}
 use Rattle.agent_core.specs.Names.{depth_of, IsClosure}
 use Rattle.agent_core.specs.Facts.{IsProgram}
 use Rattle.agent_core.specs.Scope.{AskFits}
@@ -45,10 +45,10 @@ module _ (p : CoreProgram) (is : IsProgram p) (n : ℕ) (b : List ℕ) (closure 
   pub right_of : (left right : ℕ) → slice_get p.nodes n ≡ Some (nodes.Par left right) → IsBodyOf b right
   right_of left right found = body right (facts (nodes.Par left right) found).parts.1
 
-  pub then_body : (c : Ask) (m : ℕ) → slice_get p.nodes n ≡ Some (nodes.Then c m) → IsBodyOf b m
+  pub then_body : (c : Constraint) (m : ℕ) → slice_get p.nodes n ≡ Some (nodes.Then c m) → IsBodyOf b m
   then_body c m found = body m (facts (nodes.Then c m) found).parts
 
-  pub else_body : (c : Ask) (m : ℕ) → slice_get p.nodes n ≡ Some (nodes.Else c m) → IsBodyOf b m
+  pub else_body : (c : Constraint) (m : ℕ) → slice_get p.nodes n ≡ Some (nodes.Else c m) → IsBodyOf b m
   else_body c m found = body m (facts (nodes.Else c m) found).parts
 
   pub new_body : (cell m t : ℕ) → slice_get p.nodes n ≡ Some (nodes.New cell m) → IsBodyOf (b ++ t ∷ []) m
@@ -73,7 +73,7 @@ module _ (p : CoreProgram) (is : IsProgram p) (n : ℕ) (b : List ℕ) (closure 
     always-rests d found (inr (inl e)) = sym (rests-node (nodes.Hence e.0) (found ∙ ap Some e.1))
     always-rests d found (inr (inr e)) = sym (rests-node (nodes.Next e.0) (found ∙ ap Some e.1))
 
-    pub tell-rests : (c : Ask) → slice_get p.nodes n ≡ Some (nodes.Tell c) → entails p b u c ≡ rests p n b t u v
+    pub tell-rests : (c : Constraint) → slice_get p.nodes n ≡ Some (nodes.Tell c) → entails p b u c ≡ rests p n b t u v
     tell-rests c found = sym (rests-node (nodes.Tell c) found)
 
     pub new-rests : (cell m : ℕ) → slice_get p.nodes n ≡ Some (nodes.New cell m) → rests p m (b ++ t ∷ []) t u v ≡ rests p n b t u v
@@ -85,39 +85,39 @@ module _ (p : CoreProgram) (is : IsProgram p) (n : ℕ) (b : List ℕ) (closure 
     pub right-decides : (left right : ℕ) → slice_get p.nodes n ≡ Some (nodes.Par left right) → true ≡ rests p left b t u v → rests p right b t u v ≡ rests p n b t u v
     right-decides left right found l = ap (λ (x : Bool). x && rests p right b t u v) l ∙ sym (rests-node (nodes.Par left right) found)
 
-    pub refuted-rests : (c : Ask) (m : ℕ) → slice_get p.nodes n ≡ Some (nodes.Else c m) → true ≡ entails p b v c → true ≡ rests p n b t u v
+    pub refuted-rests : (c : Constraint) (m : ℕ) → slice_get p.nodes n ≡ Some (nodes.Else c m) → true ≡ entails p b v c → true ≡ rests p n b t u v
     refuted-rests c m found e = ap (λ (x : Bool). not x ⇒ rests p m b t u v) e ∙ sym (rests-node (nodes.Else c m) found)
 
-    pub else-decides : (c : Ask) (m : ℕ) → slice_get p.nodes n ≡ Some (nodes.Else c m) → false ≡ entails p b v c → rests p m b t u v ≡ rests p n b t u v
+    pub else-decides : (c : Constraint) (m : ℕ) → slice_get p.nodes n ≡ Some (nodes.Else c m) → false ≡ entails p b v c → rests p m b t u v ≡ rests p n b t u v
     else-decides c m found e = ap (λ (x : Bool). not x ⇒ rests p m b t u v) e ∙ sym (rests-node (nodes.Else c m) found)
 
     -- what a then asks of the store
-    abbrev pub Now : Ask → ℕ → Bool
+    abbrev pub Now : Constraint → ℕ → Bool
     Now c m = entails p b u c ⇒ rests p m b t u v
 
-    abbrev AtLast : Ask → ℕ → Bool
+    abbrev AtLast : Constraint → ℕ → Bool
     AtLast c m = entails p b v c ⇒ rests p m b t v v
 
-    pub now-not : (c : Ask) (m : ℕ) → true ≡ entails p b u c → false ≡ rests p m b t u v → false ≡ Now c m
+    pub now-not : (c : Constraint) (m : ℕ) → true ≡ entails p b u c → false ≡ rests p m b t u v → false ≡ Now c m
     now-not c m e r = ap (λ (x : Bool). x ⇒ false) e ∙ ap (λ (y : Bool). entails p b u c ⇒ y) r
 
-    pub now-runs : (c : Ask) (m : ℕ) → true ≡ rests p m b t u v → true ≡ Now c m
+    pub now-runs : (c : Constraint) (m : ℕ) → true ≡ rests p m b t u v → true ≡ Now c m
     now-runs c m r = go (entails p b u c) ∙ ap (λ (y : Bool). entails p b u c ⇒ y) r
       where
         go : (x : Bool) → true ≡ (x ⇒ true)
         go true = refl
         go false = refl
 
-    pub now-waits : (c : Ask) (m : ℕ) → false ≡ entails p b u c → true ≡ Now c m
+    pub now-waits : (c : Constraint) (m : ℕ) → false ≡ entails p b u c → true ≡ Now c m
     now-waits c m e = ap (λ (x : Bool). x ⇒ rests p m b t u v) e
 
-    pub then-not : (c : Ask) (m : ℕ) → slice_get p.nodes n ≡ Some (nodes.Then c m) → false ≡ Now c m → false ≡ rests p n b t u v
+    pub then-not : (c : Constraint) (m : ℕ) → slice_get p.nodes n ≡ Some (nodes.Then c m) → false ≡ Now c m → false ≡ rests p n b t u v
     then-not c m found now = ap (λ (x : Bool). x && AtLast c m) now ∙ sym (rests-node (nodes.Then c m) found)
 
-    pub then-waits : (c : Ask) (m : ℕ) → slice_get p.nodes n ≡ Some (nodes.Then c m) → true ≡ Now c m → false ≡ entails p b v c → true ≡ rests p n b t u v
+    pub then-waits : (c : Constraint) (m : ℕ) → slice_get p.nodes n ≡ Some (nodes.Then c m) → true ≡ Now c m → false ≡ entails p b v c → true ≡ rests p n b t u v
     then-waits c m found now e =
         ap (λ (x : Bool). x ⇒ rests p m b t v v) e ∙ ap (λ (x : Bool). x && AtLast c m) now ∙ sym (rests-node (nodes.Then c m) found)
 
-    pub then-decides : (c : Ask) (m : ℕ) → slice_get p.nodes n ≡ Some (nodes.Then c m) → true ≡ Now c m → true ≡ entails p b v c → rests p m b t v v ≡ rests p n b t u v
+    pub then-decides : (c : Constraint) (m : ℕ) → slice_get p.nodes n ≡ Some (nodes.Then c m) → true ≡ Now c m → true ≡ entails p b v c → rests p m b t v v ≡ rests p n b t u v
     then-decides c m found now e =
         ap (λ (x : Bool). x ⇒ rests p m b t v v) e ∙ ap (λ (x : Bool). x && AtLast c m) now ∙ sym (rests-node (nodes.Then c m) found)

@@ -10,7 +10,7 @@ use Rattle.agent_core.specs.declared.node.CellDecl.{CellDecl}
 use Rattle.agent_core.specs.declared.node.Node.{Node}
 use Rattle.agent_core.specs.declared.node.Node.TheVariants as nodes
 use Rattle.agent_core.specs.Programs.{CoreProgram}
-use Rattle.agent_core.specs.Agents.{Agent, Ask, agent_of, agent_at}
+use Rattle.agent_core.specs.Agents.{Agent, Constraint, agent_of, agent_at}
 use Rattle.agent_core.specs.Listing.{IsListing}
 use Rattle.agent_core.specs.Facts.{IsAmong, IsInScope, AreInScope, IsConstraint, Scoped}
 use Rattle.agent_core.proofs.Parts.{IsPart}
@@ -29,20 +29,20 @@ pub no_cell : (p : CoreProgram) (locals : List ℕ) (cell : ℕ) (t : Token) →
 no_cell p locals cell t none = (λ h. absurd (false≢true h), λ scope. absurd (let f = scope.found in cc))
 
 -- tokens read one after another, where all are in scope if those that are left are
-module _ (p : CoreProgram) (locals : List ℕ) (items : Ask) (i : ℕ) (all : AreInScope p locals (drop i items) ↔ AreInScope p locals items) where
+module _ (p : CoreProgram) (locals : List ℕ) (items : Constraint) (i : ℕ) (all : AreInScope p locals (drop i items) ↔ AreInScope p locals items) where
   left_over : (pair : ℕ × Token) → i < length items → (IsInScope p locals (get_or items i pair) × AreInScope p locals (drop (i + 1) items)) ↔ AreInScope p locals items
-  left_over pair lt = subst (λ (xs : Ask). AreInScope p locals xs ↔ AreInScope p locals items) (drop_more items i pair lt) all
+  left_over pair lt = subst (λ (xs : Constraint). AreInScope p locals xs ↔ AreInScope p locals items) (drop_more items i pair lt) all
 
   pub ask_goes_on : (pair : ℕ × Token) → i < length items → IsInScope p locals (get_or items i pair) → AreInScope p locals (drop (i + 1) items) ↔ AreInScope p locals items
   ask_goes_on pair lt here = let t = left_over pair lt in (λ h. t.0 (here, h), λ h. (t.1 h).1)
 
-  pub ask_fails : (pair : ℕ × Token) → i < length items → (IsInScope p locals (get_or items i pair) → ⊥) → (c : Ask) → items ≡ c → IsTrue false ↔ IsConstraint p locals c
+  pub ask_fails : (pair : ℕ × Token) → i < length items → (IsInScope p locals (get_or items i pair) → ⊥) → (c : Constraint) → items ≡ c → IsTrue false ↔ IsConstraint p locals c
   ask_fails pair lt here c e = (
     λ h. absurd (false≢true h),
     λ h. absurd (here ((left_over pair lt).1 (subst (AreInScope p locals) (sym e) h.tokens)).0),
   )
 
-  pub ask_ends : length items ≤ i → (c : Ask) → items ≡ c → 1 ≤ length c → length c ≤ 16 → IsTrue true ↔ IsConstraint p locals c
+  pub ask_ends : length items ≤ i → (c : Constraint) → items ≡ c → 1 ≤ length c → length c ≤ 16 → IsTrue true ↔ IsConstraint p locals c
   ask_ends le c e some few = (
     λ h. record { some = some; few = few; tokens = subst (AreInScope p locals) e (all.0 (subst (AreInScope p locals) (sym (drop_all i items le)) tt)) },
     λ h. refl,
@@ -71,7 +71,7 @@ module _ (p : CoreProgram) (w : IsListing p.nodes) (n : ℕ) (lt : n < length p.
   behind : (k m : ℕ) → IsPart p.nodes n k m → IsBehind m
   behind k m h = (h.above, h.inside)
 
-  pub ask_body-behind : (c : Ask) (body : ℕ) → (get_or p.nodes n d ≡ nodes.Then c body) ⊎ (get_or p.nodes n d ≡ nodes.Else c body) → IsBehind body
+  pub ask_body-behind : (c : Constraint) (body : ℕ) → (get_or p.nodes n d ≡ nodes.Then c body) ⊎ (get_or p.nodes n d ≡ nodes.Else c body) → IsBehind body
   ask_body-behind c body (inl e) = behind _ body (node_facts (nodes.Then c body) e).parts
   ask_body-behind c body (inr e) = behind _ body (node_facts (nodes.Else c body) e).parts
 
@@ -95,15 +95,15 @@ module _ (p : CoreProgram) (w : IsListing p.nodes) (n : ℕ) (lt : n < length p.
   pub skip_scoped : (locals : List ℕ) → get_or p.nodes n d ≡ nodes.Skip → IsTrue true ↔ Scoped p locals (agent_at p.nodes n)
   skip_scoped locals e = tests_tree locals true nodes.Skip e (λ h. tt, λ h. refl)
 
-  pub tell_scoped : (locals : List ℕ) (b : Bool) (c : Ask) → get_or p.nodes n d ≡ nodes.Tell c → (IsTrue b ↔ IsConstraint p locals c) → IsTrue b ↔ Scoped p locals (agent_at p.nodes n)
+  pub tell_scoped : (locals : List ℕ) (b : Bool) (c : Constraint) → get_or p.nodes n d ≡ nodes.Tell c → (IsTrue b ↔ IsConstraint p locals c) → IsTrue b ↔ Scoped p locals (agent_at p.nodes n)
   tell_scoped locals b c e t = tests_tree locals b (nodes.Tell c) e t
 
-  pub ask_scoped : (locals : List ℕ) (b : Bool) (c : Ask) (body : ℕ) → (get_or p.nodes n d ≡ nodes.Then c body) ⊎ (get_or p.nodes n d ≡ nodes.Else c body)
+  pub ask_scoped : (locals : List ℕ) (b : Bool) (c : Constraint) (body : ℕ) → (get_or p.nodes n d ≡ nodes.Then c body) ⊎ (get_or p.nodes n d ≡ nodes.Else c body)
       → IsConstraint p locals c → (IsTrue b ↔ Scoped p locals (agent_at p.nodes body)) → IsTrue b ↔ Scoped p locals (agent_at p.nodes n)
   ask_scoped locals b c body (inl e) h t = tests_tree locals b (nodes.Then c body) e (second_tests b h t)
   ask_scoped locals b c body (inr e) h t = tests_tree locals b (nodes.Else c body) e (second_tests b h t)
 
-  pub ask_not_scoped : (locals : List ℕ) (b : Bool) (c : Ask) (body : ℕ) → (get_or p.nodes n d ≡ nodes.Then c body) ⊎ (get_or p.nodes n d ≡ nodes.Else c body)
+  pub ask_not_scoped : (locals : List ℕ) (b : Bool) (c : Constraint) (body : ℕ) → (get_or p.nodes n d ≡ nodes.Then c body) ⊎ (get_or p.nodes n d ≡ nodes.Else c body)
       → b ≡ false → (IsTrue b ↔ IsConstraint p locals c) → IsTrue b ↔ Scoped p locals (agent_at p.nodes n)
   ask_not_scoped locals b c body (inl e) f t = tests_tree locals b (nodes.Then c body) e (first_tests b f t)
   ask_not_scoped locals b c body (inr e) f t = tests_tree locals b (nodes.Else c body) e (first_tests b f t)

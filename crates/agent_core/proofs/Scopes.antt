@@ -9,7 +9,7 @@ use Rattle.token_system.specs.declared.name.CellName.TheVariants.{Declared}
 use Rattle.agent_core.specs.declared.node.Node.{Node}
 use Rattle.agent_core.specs.declared.node.Node.TheVariants as nodes
 use Rattle.agent_core.specs.Programs.{CoreProgram}
-use Rattle.agent_core.specs.Agents.{Agent, Ask, Skip, Tell, Then, Else, Par, New, Hence, Next, agent_of, agent_at}
+use Rattle.agent_core.specs.Agents.{Agent, Constraint, Skip, Tell, Then, Else, Par, New, Hence, Next, agent_of, agent_at}
 use Rattle.agent_core.specs.Listing.{size}
 use Rattle.agent_core.specs.Names.{Names, local_name, new_of, depth_of, IsClosure}
 use Rattle.agent_core.specs.Facts.{IsAmong, IsInScope, AreInScope, Scoped, IsProgram}
@@ -88,7 +88,7 @@ pair_fits p is locals news pair scope b long = record { decl = scope.decl; found
     go true r = (ltb-true pair.0 p.declared r, scope.found)
     go false r = local scope.visible r
 
-pub ask_fits : (p : CoreProgram) → IsProgram p → (locals : List ℕ) → AreNews p locals → (ask : Ask) → AreInScope p locals ask
+pub ask_fits : (p : CoreProgram) → IsProgram p → (locals : List ℕ) → AreNews p locals → (ask : Constraint) → AreInScope p locals ask
     → (b : List ℕ) → length b ≡ length locals → AskFits p b ask
 ask_fits p is locals news [] scope b long = tt
 ask_fits p is locals news (pair ∷ ask) scope b long = (pair_fits p is locals news pair scope.0 b long, ask_fits p is locals news ask scope.1 b long)
@@ -117,7 +117,7 @@ pub root_fits : (p : CoreProgram) → IsProgram p → AlwaysFits p (agent_at p.n
 root_fits p is = always p is 0 [] (agent_at p.nodes 0) (root_placed p is)
 
 -- the constraint of a node, which is empty where it has none
-abbrev pub ask_of : Node → Ask
+abbrev pub ask_of : Node → Constraint
 ask_of (nodes.Tell ask) = ask
 ask_of (nodes.Then ask body) = ask
 ask_of (nodes.Else ask body) = ask

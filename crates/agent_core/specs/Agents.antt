@@ -6,14 +6,14 @@ use Rattle.agent_core.specs.declared.node.Node.{Node}
 use Rattle.agent_core.specs.declared.node.Node.TheVariants as nodes
 
 -- tokens of cells, each cell by its number
-abbrev pub Ask : Type 0
-Ask = List (ℕ × Token)
+abbrev pub Constraint : Type 0
+Constraint = List (ℕ × Token)
 
 pub data Agent : Type 0 where
   Skip : Agent
-  Tell : Ask → Agent
-  Then : Ask → Agent → Agent
-  Else : Ask → Agent → Agent
+  Tell : Constraint → Agent
+  Then : Constraint → Agent → Agent
+  Else : Constraint → Agent → Agent
   Par : Agent → Agent → Agent
   New : ℕ → Agent → Agent
   Hence : Agent → Agent

@@ -5,7 +5,7 @@ use Rattle.token_system.specs.Tokens.{Fits}
 use Rattle.agent_core.specs.declared.node.CellDecl.{CellDecl}
 use Rattle.agent_core.specs.declared.node.Node.{Node}
 use Rattle.agent_core.specs.declared.node.Node.TheVariants as nodes
-use Rattle.agent_core.specs.Agents.{Agent, Ask, Skip, Tell, Then, Else, Par, New, Hence, Next, agent_at}
+use Rattle.agent_core.specs.Agents.{Agent, Constraint, Skip, Tell, Then, Else, Par, New, Hence, Next, agent_at}
 use Rattle.agent_core.specs.Programs.{CoreProgram}
 use Rattle.agent_core.specs.Listing.{IsListing}
 
@@ -31,12 +31,12 @@ pub record IsInScope (p : CoreProgram) (locals : List ℕ) (pair : ℕ × Token)
   pub found : slice_get p.cells pair.0 ≡ Some decl
   pub fits : Fits decl.cell pair.1
 
-abbrev pub AreInScope : CoreProgram → List ℕ → Ask → Type 0
+abbrev pub AreInScope : CoreProgram → List ℕ → Constraint → Type 0
 AreInScope p locals [] = Unit {0}
 AreInScope p locals (pair ∷ ask) = IsInScope p locals pair × AreInScope p locals ask
 
 -- a constraint has 1 to 16 tokens, each in scope
-pub record IsConstraint (p : CoreProgram) (locals : List ℕ) (ask : Ask) : Type 0 where
+pub record IsConstraint (p : CoreProgram) (locals : List ℕ) (ask : Constraint) : Type 0 where
   pub some : 1 ≤ length ask
   pub few : length ask ≤ 16
   pub tokens : AreInScope p locals ask

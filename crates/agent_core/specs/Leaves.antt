@@ -3,15 +3,15 @@ use Rattle.std.specs.Prelude.{ℕ, suc, ◌+◌, Bool, not, List, [], ◌∷◌,
 use Rattle.std.specs.List.{list_all}
 use Rattle.token_system.specs.Stores.{Valuation}
 use Rattle.agent_core.specs.declared.node.Closure.{Closure}
-use Rattle.agent_core.specs.Agents.{Agent, Ask, Skip, Tell, Then, Else, Par, New, Hence, Next, agent_at}
+use Rattle.agent_core.specs.Agents.{Agent, Constraint, Skip, Tell, Then, Else, Par, New, Hence, Next, agent_at}
 use Rattle.agent_core.specs.Programs.{CoreProgram}
 use Rattle.agent_core.specs.Listing.{size}
 use Rattle.agent_core.specs.Rests.{entails}
 
 -- an ask above a leaf, under its births: what the store is to entail, or is not to entail
 pub data Guard : Type 0 where
-  Asks : (births : List ℕ) → (ask : Ask) → Guard
-  Denies : (births : List ℕ) → (ask : Ask) → Guard
+  Asks : (births : List ℕ) → (ask : Constraint) → Guard
+  Denies : (births : List ℕ) → (ask : Constraint) → Guard
 
 -- a leaf: its node, the agent that stands there, its births, and the guards above it, outermost first
 pub record Leaf : Type 0 where
@@ -39,7 +39,7 @@ abbrev pub leaves : CoreProgram → List Closure → ℕ → List Leaf
 leaves p rs t = flat_map (λ r. leaves_of t (agent_at p.nodes r.node) r.node r.births []) rs
 
 -- what a leaf tells
-abbrev pub tells : Agent → Ask
+abbrev pub tells : Agent → Constraint
 tells (Tell c) = c
 tells _ = []
 

@@ -5,7 +5,7 @@ use Rattle.std.specs.List.{list_all}
 use Rattle.token_system.specs.declared.cell.Token.{Token}
 use Rattle.token_system.specs.Stores.{Valuation, store_entails}
 use Rattle.agent_core.specs.declared.node.CellDecl.{CellDecl}
-use Rattle.agent_core.specs.Agents.{Agent, Ask, Skip, Tell, Then, Else, Par, New, Hence, Next, agent_at}
+use Rattle.agent_core.specs.Agents.{Agent, Constraint, Skip, Tell, Then, Else, Par, New, Hence, Next, agent_at}
 use Rattle.agent_core.specs.Programs.{CoreProgram}
 use Rattle.agent_core.specs.Names.{name_of}
 
@@ -23,7 +23,7 @@ abbrev pub holds : CoreProgram → List ℕ → Valuation → ℕ × Token → B
 holds p births u told = holds_at (slice_get p.cells told.0) p births u told.0 told.1
 
 -- the store entails each token of the constraint
-abbrev pub entails : CoreProgram → List ℕ → Valuation → Ask → Bool
+abbrev pub entails : CoreProgram → List ℕ → Valuation → Constraint → Bool
 entails p births u ask = list_all (holds p births u) ask
 
 -- the agent, started at instant t under births b, rests under the store u and the guess v

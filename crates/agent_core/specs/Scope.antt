@@ -4,7 +4,7 @@ use Rattle.token_system.specs.declared.cell.Token.{Token}
 use Rattle.token_system.specs.Tokens.{Fits}
 use Rattle.agent_core.specs.declared.node.CellDecl.{CellDecl}
 use Rattle.agent_core.specs.Programs.{CoreProgram}
-use Rattle.agent_core.specs.Agents.{Agent, Ask, Skip, Tell, Then, Else, Par, New, Hence, Next}
+use Rattle.agent_core.specs.Agents.{Agent, Constraint, Skip, Tell, Then, Else, Par, New, Hence, Next}
 use Rattle.agent_core.specs.Names.{Names, name_of}
 
 -- the token's cell has a name under the births, and the token fits it
@@ -15,7 +15,7 @@ pub record TokenFits (p : CoreProgram) (births : List ℕ) (pair : ℕ × Token)
   pub fits : Fits decl.cell pair.1
 
 -- each token of the constraint does
-abbrev pub AskFits : CoreProgram → List ℕ → Ask → Type 0
+abbrev pub AskFits : CoreProgram → List ℕ → Constraint → Type 0
 AskFits p births [] = Unit {0}
 AskFits p births (pair ∷ ask) = TokenFits p births pair × AskFits p births ask
 

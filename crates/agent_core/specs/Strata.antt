@@ -1,7 +1,7 @@
 -- Stratification: which tables of numbers let no program depend on its own absence. After stratified negation; this project's own.
 use Rattle.std.specs.Prelude.{◌≡◌, ◌⊎◌, ℕ, zero, suc, ◌+◌, ◌<◌, ◌≤◌, Bool, true, false, List, [], ◌∷◌, ◌++◌, length, map, flat_map, slice_index, if◌then◌else◌}
 use Rattle.std.specs.List.{range_with_len}
-use Rattle.agent_core.specs.Agents.{Agent, Ask, Skip, Tell, Then, Else, Par, New, Hence, Next, agent_at}
+use Rattle.agent_core.specs.Agents.{Agent, Constraint, Skip, Tell, Then, Else, Par, New, Hence, Next, agent_at}
 use Rattle.agent_core.specs.Programs.{CoreProgram}
 use Rattle.agent_core.specs.Listing.{size}
 
@@ -26,7 +26,7 @@ pub record Edge : Type 0 where
   pub tell : ℕ
   pub told : ℕ
 
-abbrev pub asked_by : ℕ → Bool → Ask → List Asked
+abbrev pub asked_by : ℕ → Bool → Constraint → List Asked
 asked_by n strict ask = map (λ x. record { node = n; cell = x.0; strict = strict }) ask
 
 -- the edges of an agent, whose node is n, below these asks; a hence or a next begins a path anew

@@ -4,7 +4,7 @@ use Rattle.token_system.specs.declared.cell.Token.{Token}
 use Rattle.token_system.specs.Stores.{Valuation, told}
 use Rattle.agent_core.specs.declared.node.CellDecl.{CellDecl}
 use Rattle.agent_core.specs.Programs.{CoreProgram}
-use Rattle.agent_core.specs.Agents.{Ask}
+use Rattle.agent_core.specs.Agents.{Constraint}
 use Rattle.agent_core.specs.Names.{name_of}
 
 -- the store after the token of a cell is told, where there is such a cell
@@ -13,6 +13,6 @@ tell_at (Some d) p b u cell t = told u (name_of p b cell) d.cell t
 tell_at None p b u cell t = u
 
 -- the store after each token of the constraint is told
-abbrev pub tell_all : CoreProgram → List ℕ → Ask → Valuation → Valuation
+abbrev pub tell_all : CoreProgram → List ℕ → Constraint → Valuation → Valuation
 tell_all p b [] u = u
 tell_all p b (pair ∷ ask) u = tell_all p b ask (tell_at (slice_get p.cells pair.0) p b u pair.0 pair.1)

@@ -7,7 +7,7 @@ use Rattle.token_system.specs.declared.cell.Value.TheVariants as values
 use Rattle.token_system.specs.declared.name.CellName.TheVariants.{Declared}
 use Rattle.token_system.specs.Stores.{Valuation}
 use Rattle.agent_core.specs.declared.node.CellDecl.{CellDecl}
-use Rattle.agent_core.specs.Agents.{Agent, Ask, Tell, Else, Par, Hence, Next}
+use Rattle.agent_core.specs.Agents.{Agent, Constraint, Tell, Else, Par, Hence, Next}
 use Rattle.agent_core.specs.Programs.{CoreProgram}
 use Rattle.agent_core.specs.Listing.{listing}
 use Rattle.agent_core.specs.Rests.{rests}
@@ -18,7 +18,7 @@ abbrev pub a_decl : CellDecl
 a_decl = record { name = 97 ∷ []; cell = record { kind = kinds.Signal; lo = pos 0; hi = pos 0; lawful = refl } }
 
 -- the constraint `a`
-abbrev pub a_on : Ask
+abbrev pub a_on : Constraint
 a_on = (0, On) ∷ []
 
 -- the program of this agent over `a` alone

@@ -1,7 +1,7 @@
 -- The least number that a cell may have which is told under asks, and that this comes to the same.
 use Rattle.std.proofs.Common.{ℕ, suc, ◌+◌, ◌<◌, ◌≤◌, Bool, true, false, List, [], ◌∷◌, ◌++◌, arith}
 use Rattle.std.specs.Prelude.{map, slice_index, max, if◌then◌else◌}
-use Rattle.agent_core.specs.Agents.{Agent, Ask, Skip, Tell, Then, Else, Par, New, Hence, Next, agent_at}
+use Rattle.agent_core.specs.Agents.{Agent, Constraint, Skip, Tell, Then, Else, Par, New, Hence, Next, agent_at}
 use Rattle.agent_core.specs.Programs.{CoreProgram}
 use Rattle.agent_core.specs.Listing.{size}
 use Rattle.agent_core.specs.Leaves.{Guard, Asks, Denies, leaves_of}
@@ -10,7 +10,7 @@ use Rattle.agent_laws.proofs.Eachs.{Each-map, Each-append, Each-parts}
 use Rattle.agent_laws.proofs.LeafLevels.{Under, LeafStratified, path-le}
 
 -- the least number that k and what is asked allow
-abbrev pub floor : List ℕ → ℕ → ℕ → Ask → ℕ
+abbrev pub floor : List ℕ → ℕ → ℕ → Constraint → ℕ
 floor table more k [] = k
 floor table more k (x ∷ c) = floor table more (max k (slice_index table x.0 + more)) c
 
@@ -25,11 +25,11 @@ Floors table (New cell a) k = Floors table a k
 Floors table (Hence a) k = Floors table a 0
 Floors table (Next a) k = Floors table a 0
 
-pub floor-mono : (table : List ℕ) (more j k : ℕ) (c : Ask) → j ≤ k → floor table more j c ≤ floor table more k c
+pub floor-mono : (table : List ℕ) (more j k : ℕ) (c : Constraint) → j ≤ k → floor table more j c ≤ floor table more k c
 floor-mono table more j k [] le = le
 floor-mono table more j k (x ∷ c) le = floor-mono table more (max j (slice_index table x.0 + more)) (max k (slice_index table x.0 + more)) c (omega arith)
 
-pub floor-above : (table : List ℕ) (more k : ℕ) (c : Ask) → k ≤ floor table more k c
+pub floor-above : (table : List ℕ) (more k : ℕ) (c : Constraint) → k ≤ floor table more k c
 floor-above table more k [] = omega arith
 floor-above table more k (x ∷ c) = let h = floor-above table more (max k (slice_index table x.0 + more)) c in omega arith
 
@@ -43,11 +43,11 @@ Floors-le table (New cell a) j k le h = Floors-le table a j k le h
 Floors-le table (Hence a) j k le h = h
 Floors-le table (Next a) j k le h = h
 
-then_under : (table : List ℕ) (k m : ℕ) (c : Ask) → floor table 0 k c ≤ m → Each (λ x. slice_index table x.0 ≤ m) c
+then_under : (table : List ℕ) (k m : ℕ) (c : Constraint) → floor table 0 k c ≤ m → Each (λ x. slice_index table x.0 ≤ m) c
 then_under table k m [] le = tt
 then_under table k m (x ∷ c) le = (let h = floor-above table 0 (max k (slice_index table x.0 + 0)) c in omega arith, then_under table (max k (slice_index table x.0 + 0)) m c le)
 
-else_under : (table : List ℕ) (k m : ℕ) (c : Ask) → floor table 1 k c ≤ m → Each (λ x. slice_index table x.0 < m) c
+else_under : (table : List ℕ) (k m : ℕ) (c : Constraint) → floor table 1 k c ≤ m → Each (λ x. slice_index table x.0 < m) c
 else_under table k m [] le = tt
 else_under table k m (x ∷ c) le = (let h = floor-above table 1 (max k (slice_index table x.0 + 1)) c in omega arith, else_under table (max k (slice_index table x.0 + 1)) m c le)
 
@@ -77,18 +77,18 @@ pub record IsFloor (table : List ℕ) (path : List Asked) (k : ℕ) : Type 0 whe
   pub each : Each (λ g. slice_index table g.cell + weight g.strict ≤ k) path
   pub least : (m : ℕ) → Each (λ g. slice_index table g.cell + weight g.strict ≤ m) path → k ≤ m
 
-floor-is : (table : List ℕ) (n : ℕ) (strict : Bool) (c : Ask) (path : List Asked) (k : ℕ) → IsFloor table path k → IsFloor table (path ++ asked_by n strict c) (floor table (weight strict) k c)
+floor-is : (table : List ℕ) (n : ℕ) (strict : Bool) (c : Constraint) (path : List Asked) (k : ℕ) → IsFloor table path k → IsFloor table (path ++ asked_by n strict c) (floor table (weight strict) k c)
 floor-is table n strict c path k h = record {
   each = Each-append (λ g. slice_index table g.cell + weight g.strict ≤ floor table (weight strict) k c) path (asked_by n strict c)
       (Each-map (λ g. slice_index table g.cell + weight g.strict ≤ k) (λ g. slice_index table g.cell + weight g.strict ≤ floor table (weight strict) k c) (λ g le. let a = floor-above table (weight strict) k c in omega arith) path h.each) (mine c k);
   least = λ m e. let r = Each-parts (λ g. slice_index table g.cell + weight g.strict ≤ m) path (asked_by n strict c) e in within c k m (h.least m r.0) r.1;
 }
   where
-    mine : (c : Ask) (k : ℕ) → Each (λ g. slice_index table g.cell + weight g.strict ≤ floor table (weight strict) k c) (asked_by n strict c)
+    mine : (c : Constraint) (k : ℕ) → Each (λ g. slice_index table g.cell + weight g.strict ≤ floor table (weight strict) k c) (asked_by n strict c)
     mine [] k = tt
     mine (x ∷ c) k = (let a = floor-above table (weight strict) (max k (slice_index table x.0 + weight strict)) c in omega arith, mine c (max k (slice_index table x.0 + weight strict)))
 
-    within : (c : Ask) (k m : ℕ) → k ≤ m → Each (λ g. slice_index table g.cell + weight g.strict ≤ m) (asked_by n strict c) → floor table (weight strict) k c ≤ m
+    within : (c : Constraint) (k m : ℕ) → k ≤ m → Each (λ g. slice_index table g.cell + weight g.strict ≤ m) (asked_by n strict c) → floor table (weight strict) k c ≤ m
     within [] k m le e = le
     within (x ∷ c) k m le e = within c (max k (slice_index table x.0 + weight strict)) m (let a = e.0 in omega arith) e.1
 
@@ -103,13 +103,13 @@ meet-edges_of : (table : List ℕ) (n d : ℕ) (path : List Asked) → Each (λ 
 meet-edges_of table n d [] h = tt
 meet-edges_of table n d (g ∷ path) h = (h.0, meet-edges_of table n d path h.1)
 
-tell-floor : (table : List ℕ) (n : ℕ) (c : Ask) (path : List Asked) (k : ℕ) → IsFloor table path k → Each (Meets table) (agent_edges n (Tell c) path) → Each (λ x. k ≤ slice_index table x.0) c
+tell-floor : (table : List ℕ) (n : ℕ) (c : Constraint) (path : List Asked) (k : ℕ) → IsFloor table path k → Each (Meets table) (agent_edges n (Tell c) path) → Each (λ x. k ≤ slice_index table x.0) c
 tell-floor table n [] path k is h = tt
 tell-floor table n (x ∷ c) path k is h =
     let r = Each-parts (Meets table) (map (λ g. record { guard = g; tell = n; told = x.0 }) path) (agent_edges n (Tell c) path) h in
     (is.least _ (edges_of-meet table n x.0 path r.0), tell-floor table n c path k is r.1)
 
-floor-tell : (table : List ℕ) (n : ℕ) (c : Ask) (path : List Asked) (k : ℕ) → IsFloor table path k → Each (λ x. k ≤ slice_index table x.0) c → Each (Meets table) (agent_edges n (Tell c) path)
+floor-tell : (table : List ℕ) (n : ℕ) (c : Constraint) (path : List Asked) (k : ℕ) → IsFloor table path k → Each (λ x. k ≤ slice_index table x.0) c → Each (Meets table) (agent_edges n (Tell c) path)
 floor-tell table n [] path k is h = tt
 floor-tell table n (x ∷ c) path k is h =
     Each-append (Meets table) (map (λ g. record { guard = g; tell = n; told = x.0 }) path) (agent_edges n (Tell c) path)

@@ -10,7 +10,7 @@ use Rattle.token_system.specs.declared.cell.Token.{Token}
 use Rattle.token_system.specs.Stores.{Valuation}
 use Rattle.token_system.proofs.Alike.{true_false}
 use Rattle.agent_core.specs.declared.node.CellDecl.{CellDecl}
-use Rattle.agent_core.specs.Agents.{Ask}
+use Rattle.agent_core.specs.Agents.{Constraint}
 use Rattle.agent_core.specs.Programs.{CoreProgram}
 use Rattle.agent_core.specs.Names.{Names, name_of, local_name, new_of}
 use Rattle.agent_core.specs.Stores.{IsStore, Below}
@@ -76,15 +76,15 @@ module _ (p : CoreProgram) (table : List ℕ) (s : ℕ) (low : AreBelow p table 
       subst (λ (o : Option CellDecl). IsTrue (holds_at o p b w x.0 x.1)) (sym f.found)
       (upto (name_of p b x.0) (subst (λ (m : ℕ). m < k) (sym (name-level b x f)) lt) f.decl x.1 f.named f.fits (subst (λ (o : Option CellDecl). IsTrue (holds_at o p b u x.0 x.1)) f.found h))
 
-  entails-upto : (k : ℕ) (b : List ℕ) (u w : Valuation) (c : Ask) → AskFits p b c → Each (λ x. slice_index table x.0 < k) c → Upto k u w → IsTrue (entails p b u c) → IsTrue (entails p b w c)
+  entails-upto : (k : ℕ) (b : List ℕ) (u w : Valuation) (c : Constraint) → AskFits p b c → Each (λ x. slice_index table x.0 < k) c → Upto k u w → IsTrue (entails p b u c) → IsTrue (entails p b w c)
   entails-upto k b u w [] f lt upto h = refl
   entails-upto k b u w (x ∷ c) f lt upto h =
       both _ _ (holds-upto k b u w x f.0 lt.0 upto (first_of_both (holds p b u x) (entails p b u c) h)) (entails-upto k b u w c f.1 lt.1 upto (second_of_both (holds p b u x) (entails p b u c) h))
 
-  weaken : (k m : ℕ) (c : Ask) → m < k → Each (λ x. slice_index table x.0 ≤ m) c → Each (λ x. slice_index table x.0 < k) c
+  weaken : (k m : ℕ) (c : Constraint) → m < k → Each (λ x. slice_index table x.0 ≤ m) c → Each (λ x. slice_index table x.0 < k) c
   weaken k m c lt h = Each-map (λ x. slice_index table x.0 ≤ m) (λ x. slice_index table x.0 < k) (λ x le. omega arith) c h
 
-  below_low : (k m : ℕ) (c : Ask) → m ≤ k → Each (λ x. slice_index table x.0 < m) c → Each (λ x. slice_index table x.0 < k) c
+  below_low : (k m : ℕ) (c : Constraint) → m ≤ k → Each (λ x. slice_index table x.0 < m) c → Each (λ x. slice_index table x.0 < k) c
   below_low k m c le h = Each-map (λ x. slice_index table x.0 < m) (λ x. slice_index table x.0 < k) (λ x lt. omega arith) c h
 
   pub asked-upto : (k m : ℕ) (u w : Valuation) (path : List Guard) → m < k → Each (GuardFits p) path → Each (Under table m) path → Upto k u w → IsTrue (list_all (asked p u) path) → IsTrue (list_all (asked p w) path)
@@ -100,7 +100,7 @@ module _ (p : CoreProgram) (table : List ℕ) (s : ℕ) (low : AreBelow p table 
       both _ _ (not_up (entails p b w c) (entails p b u c) (entails-upto k b u w c f.0 (below_low k m c le under.0) upto) (first_of_both (not (entails p b w c)) (list_all (free p w) path) h))
       (free-down k m u w path le f.1 under.1 upto (second_of_both (not (entails p b w c)) (list_all (free p w) path) h))
 
-  each_low : (b : List ℕ) (c : Ask) → AskFits p b c → Each (λ x. slice_index table x.0 < s) c
+  each_low : (b : List ℕ) (c : Constraint) → AskFits p b c → Each (λ x. slice_index table x.0 < s) c
   each_low b [] f = tt
   each_low b (x ∷ c) f = (low x.0 (slice_get_within p.cells x.0 f.0.decl f.0.found), each_low b c f.1)
 
@@ -114,20 +114,20 @@ module _ (p : CoreProgram) (table : List ℕ) (s : ℕ) (low : AreBelow p table 
   under-min k m [] h g = tt
   under-min k m (Asks b c ∷ path) h g = (go c h.0 g.0, under-min k m path h.1 g.1)
     where
-      go : (c : Ask) → Each (λ x. slice_index table x.0 ≤ k) c → Each (λ x. slice_index table x.0 ≤ m) c → Each (λ x. slice_index table x.0 ≤ min k m) c
+      go : (c : Constraint) → Each (λ x. slice_index table x.0 ≤ k) c → Each (λ x. slice_index table x.0 ≤ m) c → Each (λ x. slice_index table x.0 ≤ min k m) c
       go [] h g = tt
       go (x ∷ c) h g = (le-min h.0 g.0, go c h.1 g.1)
   under-min k m (Denies b c ∷ path) h g = (go c h.0 g.0, under-min k m path h.1 g.1)
     where
-      go : (c : Ask) → Each (λ x. slice_index table x.0 < k) c → Each (λ x. slice_index table x.0 < m) c → Each (λ x. slice_index table x.0 < min k m) c
+      go : (c : Constraint) → Each (λ x. slice_index table x.0 < k) c → Each (λ x. slice_index table x.0 < m) c → Each (λ x. slice_index table x.0 < min k m) c
       go [] h g = tt
       go (x ∷ c) h g = (omega arith, go c h.1 g.1)
 
-  pub under_level : (told : Ask) (path : List Guard) → Each (GuardFits p) path → Each (λ x. Each (Under table (slice_index table x.0)) path) told → Each (Under table (least_told table s told)) path
+  pub under_level : (told : Constraint) (path : List Guard) → Each (GuardFits p) path → Each (λ x. Each (Under table (slice_index table x.0)) path) told → Each (Under table (least_told table s told)) path
   under_level [] path f h = under_all path f
   under_level (x ∷ told) path f h = under-min (slice_index table x.0) (least_told table s told) path h.0 (under_level told path f h.1)
 
-  pub least-below : (m : ℕ) (told : Ask) → m ≤ least_told table s told → Each (λ x. m ≤ slice_index table x.0) told
+  pub least-below : (m : ℕ) (told : Constraint) → m ≤ least_told table s told → Each (λ x. m ≤ slice_index table x.0) told
   least-below m [] le = tt
   least-below m (x ∷ told) le =
       let a : m ≤ slice_index table x.0 = omega (arith, min-le_left (slice_index table x.0) (least_told table s told)) in
@@ -135,7 +135,7 @@ module _ (p : CoreProgram) (table : List ℕ) (s : ℕ) (low : AreBelow p table 
       (a, least-below m told b)
 
   -- told tokens change no more than needed, stratum by stratum
-  pub tell_all-upto : (k m : ℕ) (b : List ℕ) (told : Ask) (u w : Valuation) → AskFits p b told → Each (λ x. m ≤ slice_index table x.0) told → IsStore p u → IsStore p w → Upto k u w
+  pub tell_all-upto : (k m : ℕ) (b : List ℕ) (told : Constraint) (u w : Valuation) → AskFits p b told → Each (λ x. m ≤ slice_index table x.0) told → IsStore p u → IsStore p w → Upto k u w
       → (m < k → IsTrue (entails p b w told)) → Upto k (tell_all p b told u) w
   tell_all-upto k m b [] u w f le iu iw upto sat = upto
   tell_all-upto k m b (x ∷ told) u w f le iu iw upto sat =

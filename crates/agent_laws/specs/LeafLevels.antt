@@ -1,13 +1,13 @@
 -- The levels of leaves, and what the leaves that a store runs tell. This project's own.
 use Rattle.std.specs.Prelude.{ℕ, min, cond, List, [], ◌∷◌, slice_index}
 use Rattle.token_system.specs.Stores.{Valuation}
-use Rattle.agent_core.specs.Agents.{Ask}
+use Rattle.agent_core.specs.Agents.{Constraint}
 use Rattle.agent_core.specs.Programs.{CoreProgram}
 use Rattle.agent_core.specs.Tellings.{tell_all}
 use Rattle.agent_core.specs.Leaves.{Leaf, tells, runs}
 
 -- the least number of a told cell, or this number where that is less
-abbrev pub least_told : List ℕ → ℕ → Ask → ℕ
+abbrev pub least_told : List ℕ → ℕ → Constraint → ℕ
 least_told table s [] = s
 least_told table s (x ∷ told) = min (slice_index table x.0) (least_told table s told)
 

@@ -7,7 +7,7 @@ use Rattle.token_system.specs.declared.cell.Value.TheVariants as values
 use Rattle.token_system.specs.declared.name.CellName.TheVariants.{Declared}
 use Rattle.token_system.specs.Stores.{Valuation}
 use Rattle.agent_core.specs.declared.node.CellDecl.{CellDecl}
-use Rattle.agent_core.specs.Agents.{Ask, Tell, Else, Par, New, Hence}
+use Rattle.agent_core.specs.Agents.{Constraint, Tell, Else, Par, New, Hence}
 use Rattle.agent_core.specs.Programs.{CoreProgram}
 use Rattle.agent_core.specs.Listing.{listing}
 use Rattle.agent_core.specs.Facts.{IsProgram}
@@ -20,7 +20,7 @@ use Rattle.agent_core.specs.Worked.{a_decl, a_on, over_a, nothing, only_a, self_
 abbrev pub signal : ℕ → CellDecl
 signal letter = record { name = letter ∷ []; cell = record { kind = kinds.Signal; lo = pos 0; hi = pos 0; lawful = refl } }
 
-abbrev pub on : ℕ → Ask
+abbrev pub on : ℕ → Constraint
 on cell = (cell, On) ∷ []
 
 -- `signal a, b; if a else b`

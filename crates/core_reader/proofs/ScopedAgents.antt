@@ -3,7 +3,7 @@ use Rattle.std.proofs.Common.{◌≡◌, ◌⊎◌, ℕ, ◌<◌, List, [], ◌�
 use Rattle.std.specs.Prelude.{slice_get}
 use Rattle.token_system.specs.declared.cell.Token.{Token}
 use Rattle.agent_core.specs.declared.node.CellDecl.{CellDecl}
-use Rattle.agent_core.specs.Agents.{Agent, Ask, Skip, Tell, Then, Else, Par, New, Hence, Next}
+use Rattle.agent_core.specs.Agents.{Agent, Constraint, Skip, Tell, Then, Else, Par, New, Hence, Next}
 use Rattle.agent_core.specs.Programs.{CoreProgram}
 use Rattle.agent_core.specs.Facts.{IsAmong, IsInScope, AreInScope, IsConstraint, Scoped}
 use Rattle.surface_laws.specs.Surfaces as surface
@@ -19,11 +19,11 @@ module _ (p q : CoreProgram) (cells : p.cells ≡ q.cells) (declared : p.declare
     fits = is.fits;
   }
 
-  all_in_scope : (locals : List ℕ) (ask : Ask) → AreInScope p locals ask → AreInScope q locals ask
+  all_in_scope : (locals : List ℕ) (ask : Constraint) → AreInScope p locals ask → AreInScope q locals ask
   all_in_scope locals [] are = tt
   all_in_scope locals (pair ∷ ask) are = (in_scope locals pair are.0, all_in_scope locals ask are.1)
 
-  constraint_in : (locals : List ℕ) (ask : Ask) → IsConstraint p locals ask → IsConstraint q locals ask
+  constraint_in : (locals : List ℕ) (ask : Constraint) → IsConstraint p locals ask → IsConstraint q locals ask
   constraint_in locals ask is = record { some = is.some; few = is.few; tokens = all_in_scope locals ask is.tokens }
 
   pub agent_scoped : (a : Agent) (locals : List ℕ) → surface.Scoped p locals (tree_of a) → Scoped q locals a

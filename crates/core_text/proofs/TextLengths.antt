@@ -15,7 +15,7 @@ use Rattle.token_system.specs.Domain.{is_bound, is_cell}
 use Rattle.token_system.specs.Tokens.{fits_kind}
 use Rattle.token_system.specs.Texts.{text_of}
 use Rattle.agent_core.specs.declared.node.CellDecl.{CellDecl}
-use Rattle.agent_core.specs.Agents.{Agent, Ask, Skip, Tell, Then, Else, Par, New, Hence, Next, agent_at}
+use Rattle.agent_core.specs.Agents.{Agent, Constraint, Skip, Tell, Then, Else, Par, New, Hence, Next, agent_at}
 use Rattle.agent_core.specs.Facts.{IsProgram, IsInScope, AreInScope, IsConstraint, Scoped}
 use Rattle.agent_core.specs.Listing.{size}
 use Rattle.agent_core.specs.Programs.{CoreProgram}
@@ -99,17 +99,17 @@ module _ (p : CoreProgram) (good : HasGoodNames p) where
   pair_length : (locals : List ℕ) (x : ℕ × Token) → IsInScope p locals x → length (text_of (name_at p.cells x.0) x.1) ≤ 44
   pair_length locals x is = token_length (name_at p.cells x.0) is.decl.cell.kind x.1 (name_length x.0) is.fits
 
-  rest_length : (locals : List ℕ) (xs : Ask) → AreInScope p locals xs → length (flat_map (λ (x : ℕ × Token). codes " & " ++ text_of (name_at p.cells x.0) x.1) xs) ≤ 47 * length xs
+  rest_length : (locals : List ℕ) (xs : Constraint) → AreInScope p locals xs → length (flat_map (λ (x : ℕ × Token). codes " & " ++ text_of (name_at p.cells x.0) x.1) xs) ≤ 47 * length xs
   rest_length locals [] are = omega arith
   rest_length locals (x ∷ xs) are =
       let one = pair_length locals x are.0 in
       let more = rest_length locals xs are.1 in
       omega (arith, length-append (codes " & " ++ text_of (name_at p.cells x.0) x.1) (flat_map (λ (y : ℕ × Token). codes " & " ++ text_of (name_at p.cells y.0) y.1) xs))
 
-  ask_length : (locals : List ℕ) (c : Ask) → IsConstraint p locals c → length (ask_text p.cells c) ≤ 752
+  ask_length : (locals : List ℕ) (c : Constraint) → IsConstraint p locals c → length (ask_text p.cells c) ≤ 752
   ask_length locals c is = go c is.few is.tokens
     where
-      go : (xs : Ask) → length xs ≤ 16 → AreInScope p locals xs → length (ask_text p.cells xs) ≤ 752
+      go : (xs : Constraint) → length xs ≤ 16 → AreInScope p locals xs → length (ask_text p.cells xs) ≤ 752
       go [] few are = omega arith
       go (x ∷ xs) few are =
           let one = pair_length locals x are.0 in

@@ -8,7 +8,7 @@ use Rattle.token_system.specs.declared.cell.Kind.TheVariants.{Signal, Number}
 use Rattle.token_system.specs.declared.cell.Cell.{Cell}
 use Rattle.token_system.specs.Texts.{text_of}
 use Rattle.agent_core.specs.declared.node.CellDecl.{CellDecl}
-use Rattle.agent_core.specs.Agents.{Agent, Ask, Skip, Tell, Then, Else, Par, New, Hence, Next, agent_at}
+use Rattle.agent_core.specs.Agents.{Agent, Constraint, Skip, Tell, Then, Else, Par, New, Hence, Next, agent_at}
 use Rattle.agent_core.specs.Programs.{CoreProgram}
 
 -- CELLS
@@ -40,7 +40,7 @@ decl_at cells n = option_map_or decl_text (slice_get cells n) []
 -- AGENTS
 
 -- the tokens in their order, with ` & ` between them
-abbrev pub ask_text : List CellDecl → Ask → List ℕ
+abbrev pub ask_text : List CellDecl → Constraint → List ℕ
 ask_text cells ask = join_by (λ x. text_of (name_at cells x.0) x.1) (codes " & ") ask
 
 -- the text of an agent where it is to be one unit: a par stands in braces

@@ -18,7 +18,7 @@ use Rattle.token_system.specs.declared.cell.Token.{Token}
 use Rattle.token_system.specs.Texts.{text_of}
 use Rattle.agent_core.specs.declared.node.CellDecl.{CellDecl}
 use Rattle.agent_core.specs.Agents as core
-use Rattle.agent_core.specs.Agents.{Ask, agent_at}
+use Rattle.agent_core.specs.Agents.{Constraint, agent_at}
 use Rattle.agent_core.specs.Programs.{CoreProgram}
 use Rattle.agent_core.specs.Facts.{IsProgram, IsInScope, AreInScope}
 use Rattle.core_text.specs.CoreTexts.{decl_text, decl_lines, name_at, decl_at, ask_text, as_unit, agent_text, core_text}
@@ -103,7 +103,7 @@ module _ (p : CoreProgram) (good : HasGoodNames p) where
       → Written (text_of (name_at p.cells x.0) x.1 ++ (sp ∷ text)) (token (token_phrase (name_at p.cells x.0) x.1) terms)
   pair_written locals x sp is gap w = token_written (name_at p.cells x.0) is.decl.cell.kind x.1 sp (subst IsCoreName (sym (named p x.0 is.decl is.found)) (good.names x.0 is.decl is.found)) is.fits gap w
 
-  ask_written : (locals : List ℕ) (c : Ask) (sp : ℕ) {text : List ℕ} {terms : List Term} → 1 ≤ length c → AreInScope p locals c → IsGap sp → Written text terms → Written (ask_text p.cells c ++ (sp ∷ text)) (constraint (ask_phrase p.cells c) terms)
+  ask_written : (locals : List ℕ) (c : Constraint) (sp : ℕ) {text : List ℕ} {terms : List Term} → 1 ≤ length c → AreInScope p locals c → IsGap sp → Written text terms → Written (ask_text p.cells c ++ (sp ∷ text)) (constraint (ask_phrase p.cells c) terms)
   ask_written locals [] sp some are gap w = absurd (omega arith)
   ask_written locals (x ∷ []) sp {text} some are gap w =
       same_written (ap (λ (t : List ℕ). t ++ (sp ∷ text)) (append-nil (text_of (name_at p.cells x.0) x.1))) (pair_written locals x sp are.0 gap w)

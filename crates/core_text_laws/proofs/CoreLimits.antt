@@ -8,7 +8,7 @@ use Rattle.token_system.specs.declared.cell.Token.{Token}
 use Rattle.token_system.specs.declared.cell.Token.TheVariants as tokens
 use Rattle.program_grammar.specs.Phrases as g
 use Rattle.agent_core.specs.declared.node.CellDecl.{CellDecl}
-use Rattle.agent_core.specs.Agents.{Agent, Ask, Skip, Tell, Then, Else, Par, New, Hence, Next, agent_at}
+use Rattle.agent_core.specs.Agents.{Agent, Constraint, Skip, Tell, Then, Else, Par, New, Hence, Next, agent_at}
 use Rattle.agent_core.specs.Facts.{IsProgram, IsConstraint, Scoped}
 use Rattle.agent_core.specs.Listing.{size}
 use Rattle.agent_core.specs.Programs.{CoreProgram}
@@ -41,7 +41,7 @@ counts_once x (tokens.AtMost k) = refl
 one_token : (x : List ℕ) (t : Token) (n at : ℕ) → n + 1 ≤ 16 → many_limit Core (n + token_count Core (token_phrase x t)) at ≡ None
 one_token x t n at le = ap (λ (k : ℕ). many_limit Core (n + k) at) (counts_once x t) ∙ not_many (n + 1) at le
 
-ask_within : (cells : List CellDecl) (ask : Ask) (n at : ℕ) → n + length ask ≤ 16 → 1 ≤ length ask → constraint_limit Core (ask_phrase cells ask) n at ≡ None
+ask_within : (cells : List CellDecl) (ask : Constraint) (n at : ℕ) → n + length ask ≤ 16 → 1 ≤ length ask → constraint_limit Core (ask_phrase cells ask) n at ≡ None
 ask_within cells [] n at le some = absurd (omega arith)
 ask_within cells (x ∷ []) n at le some = one_token (name_at cells x.0) x.1 n at le
 ask_within cells (x ∷ y ∷ ys) n at le some =
@@ -52,7 +52,7 @@ ask_within cells (x ∷ y ∷ ys) n at le some =
     (ap (λ (k : ℕ). constraint_limit Core (ask_phrase cells (y ∷ ys)) (n + k) next) (counts_once (name_at cells x.0) x.1)
     ∙ ask_within cells (y ∷ ys) (n + 1) next (omega arith) (omega arith))
 
-constraint_within : (p : CoreProgram) (locals : List ℕ) (ask : Ask) (at : ℕ) → IsConstraint p locals ask → constraint_limit Core (ask_phrase p.cells ask) 0 at ≡ None
+constraint_within : (p : CoreProgram) (locals : List ℕ) (ask : Constraint) (at : ℕ) → IsConstraint p locals ask → constraint_limit Core (ask_phrase p.cells ask) 0 at ≡ None
 constraint_within p locals ask at is = ask_within p.cells ask 0 at (let few = is.few in omega arith) is.some
 
 -- AGENTS
@@ -84,7 +84,7 @@ module _ (p : CoreProgram) where
   below a d at next unit le = none_both (deep_limit Core d at) (unit_limit Core (as_unit_phrase (agent_phrase p.cells a)) (d + 1) next) (not_deep d at (omega arith)) (unit (d + 1) next (omega arith))
 
   -- one that asks
-  asks_below : (locals : List ℕ) (c : Ask) (a : Agent) (d at next : ℕ) → IsConstraint p locals c → UnitWithin a → d + 2 * suc (size a) ≤ 8193
+  asks_below : (locals : List ℕ) (c : Constraint) (a : Agent) (d at next : ℕ) → IsConstraint p locals c → UnitWithin a → d + 2 * suc (size a) ≤ 8193
       → first (deep_limit Core d at) (first (constraint_limit Core (ask_phrase p.cells c) 0 (at + 1)) (unit_limit Core (as_unit_phrase (agent_phrase p.cells a)) (d + 1) next)) ≡ None
   asks_below locals c a d at next is unit le =
       none_both (deep_limit Core d at) (first (constraint_limit Core (ask_phrase p.cells c) 0 (at + 1)) (unit_limit Core (as_unit_phrase (agent_phrase p.cells a)) (d + 1) next)) (not_deep d at (omega arith))

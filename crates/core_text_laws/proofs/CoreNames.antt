@@ -13,7 +13,7 @@ use Rattle.token_system.specs.declared.cell.Token.{Token}
 use Rattle.token_system.specs.declared.cell.Token.TheVariants as token
 use Rattle.program_grammar.specs.Phrases as g
 use Rattle.agent_core.specs.declared.node.CellDecl.{CellDecl}
-use Rattle.agent_core.specs.Agents.{Agent, Ask, Skip, Tell, Then, Else, Par, New, Hence, Next, agent_at}
+use Rattle.agent_core.specs.Agents.{Agent, Constraint, Skip, Tell, Then, Else, Par, New, Hence, Next, agent_at}
 use Rattle.agent_core.specs.Programs.{CoreProgram}
 use Rattle.agent_core.specs.Facts.{IsProgram, IsInScope, AreInScope}
 use Rattle.tdcc_reader.specs.Limits.{first}
@@ -100,7 +100,7 @@ module _ (p : CoreProgram) where
   pair_clean locals x scope at fits is =
       use_clean (name_at p.cells x.0) is.decl.cell.kind x.1 scope at (ap (kind_of scope) (named p x.0 is.decl is.found) ∙ fits.each x.0 is.decl is.visible is.found) is.fits
 
-  ask_clean : (locals : List ℕ) (c : Ask) (scope : List Known) (at : ℕ) → KnownFits p.cells (IsVisible p locals) scope → 1 ≤ length c → AreInScope p locals c → constraint_fault (ask_phrase p.cells c) scope at ≡ None
+  ask_clean : (locals : List ℕ) (c : Constraint) (scope : List Known) (at : ℕ) → KnownFits p.cells (IsVisible p locals) scope → 1 ≤ length c → AreInScope p locals c → constraint_fault (ask_phrase p.cells c) scope at ≡ None
   ask_clean locals [] scope at fits some are = absurd (omega arith)
   ask_clean locals (x ∷ []) scope at fits some are = pair_clean locals x scope at fits are.0
   ask_clean locals (x ∷ y ∷ ys) scope at fits some are =

@@ -7,7 +7,7 @@ use Rattle.token_system.specs.declared.cell.Token.{Token}
 use Rattle.token_system.specs.declared.cell.Token.TheVariants as token
 use Rattle.program_grammar.specs.Phrases as g
 use Rattle.agent_core.specs.declared.node.CellDecl.{CellDecl}
-use Rattle.agent_core.specs.Agents.{Agent, Ask, Skip, Tell, Then, Else, Par, New, Hence, Next, agent_at}
+use Rattle.agent_core.specs.Agents.{Agent, Constraint, Skip, Tell, Then, Else, Par, New, Hence, Next, agent_at}
 use Rattle.agent_core.specs.Programs.{CoreProgram}
 use Rattle.core_text.specs.CoreTexts.{name_at}
 
@@ -19,7 +19,7 @@ token_phrase x (token.AtLeast k) = g.AtLeast x k
 token_phrase x (token.AtMost k) = g.AtMost x k
 
 -- no constraint is empty
-abbrev pub ask_phrase : List CellDecl → Ask → g.ConstraintPhrase
+abbrev pub ask_phrase : List CellDecl → Constraint → g.ConstraintPhrase
 ask_phrase cells [] = g.One (g.On [])
 ask_phrase cells (x ∷ []) = g.One (token_phrase (name_at cells x.0) x.1)
 ask_phrase cells (x ∷ y ∷ ys) = g.Both (token_phrase (name_at cells x.0) x.1) (ask_phrase cells (y ∷ ys))

@@ -11,7 +11,7 @@ use Rattle.token_system.specs.declared.cell.Token.{Token}
 use Rattle.token_system.specs.declared.cell.Token.TheVariants as token
 use Rattle.program_grammar.specs.Phrases as g
 use Rattle.agent_core.specs.declared.node.CellDecl.{CellDecl}
-use Rattle.agent_core.specs.Agents.{Agent, Ask, Skip, Tell, Then, Else, Par, New, Hence, Next, agent_at}
+use Rattle.agent_core.specs.Agents.{Agent, Constraint, Skip, Tell, Then, Else, Par, New, Hence, Next, agent_at}
 use Rattle.agent_core.specs.Programs.{CoreProgram}
 use Rattle.agent_core.specs.Facts.{IsProgram, AreInScope, IsConstraint}
 use Rattle.tdcc_reader.specs.Trees as tree
@@ -67,14 +67,14 @@ module _ (p : CoreProgram) where
   token_kept scope c (token.AtLeast i) e = ap (λ (k : ℕ). (k, token.AtLeast i) ∷ []) e
   token_kept scope c (token.AtMost i) e = ap (λ (k : ℕ). (k, token.AtMost i) ∷ []) e
 
-  ask_kept : (locals : List ℕ) (scope : List Placed) (c : Ask) → ScopeFits p locals scope → 1 ≤ length c → AreInScope p locals c → ask_of scope (ask_phrase p.cells c) ≡ c
+  ask_kept : (locals : List ℕ) (scope : List Placed) (c : Constraint) → ScopeFits p locals scope → 1 ≤ length c → AreInScope p locals c → ask_of scope (ask_phrase p.cells c) ≡ c
   ask_kept locals scope [] fits some are = absurd (omega arith)
   ask_kept locals scope (x ∷ []) fits some are = token_kept scope x.0 x.1 (fits.each x.0 are.0.visible)
   ask_kept locals scope (x ∷ y ∷ ys) fits some are =
-      ap (λ (q : Ask). q ++ ask_of scope (ask_phrase p.cells (y ∷ ys))) (token_kept scope x.0 x.1 (fits.each x.0 are.0.visible))
-      ∙ ap (λ (q : Ask). x ∷ q) (ask_kept locals scope (y ∷ ys) fits (omega arith) are.1)
+      ap (λ (q : Constraint). q ++ ask_of scope (ask_phrase p.cells (y ∷ ys))) (token_kept scope x.0 x.1 (fits.each x.0 are.0.visible))
+      ∙ ap (λ (q : Constraint). x ∷ q) (ask_kept locals scope (y ∷ ys) fits (omega arith) are.1)
 
-  constraint_kept : (locals : List ℕ) (scope : List Placed) (c : Ask) → ScopeFits p locals scope → IsConstraint p locals c → ask_of scope (ask_phrase p.cells c) ≡ c
+  constraint_kept : (locals : List ℕ) (scope : List Placed) (c : Constraint) → ScopeFits p locals scope → IsConstraint p locals c → ask_of scope (ask_phrase p.cells c) ≡ c
   constraint_kept locals scope c fits is = ask_kept locals scope c fits is.some is.tokens
 
   -- TREES

@@ -1,7 +1,7 @@
 -- Where an agent sits in its program: its constraints are in scope, its new nodes have fresh names, and their cells are numbered in order.
 use Rattle.std.proofs.Common.{◌≡◌, ℕ, zero, suc, ◌+◌, ◌-◌, ◌≤◌, List, [], ◌∷◌, ◌++◌, length, refl, sym, ap, ◌∙◌, subst, arith, length-append}
 use Rattle.std.specs.Prelude.{filter_map}
-use Rattle.agent_core.specs.Agents.{Agent, Ask, Then, Else, Par, New, Hence, Next, agent_at}
+use Rattle.agent_core.specs.Agents.{Agent, Constraint, Then, Else, Par, New, Hence, Next, agent_at}
 use Rattle.agent_core.specs.Programs.{CoreProgram}
 use Rattle.agent_core.specs.Listing.{listing}
 use Rattle.agent_core.specs.Facts.{Scoped, IsProgram, cell_of, count_up}
@@ -34,10 +34,10 @@ pub record Sits (p : CoreProgram) (locals : List ℕ) (n : ℕ) (a : Agent) : Ty
   pub few : n + length (news a) ≤ length p.cells
 
 module _ (p : CoreProgram) (locals : List ℕ) (n : ℕ) where
-  pub sits_then : (c : Ask) (a : Agent) → Sits p locals n (Then c a) → Sits p locals n a
+  pub sits_then : (c : Constraint) (a : Agent) → Sits p locals n (Then c a) → Sits p locals n a
   sits_then c a s = record { scoped = s.scoped.1; fresh = s.fresh; counted = s.counted; few = s.few }
 
-  pub sits_else : (c : Ask) (a : Agent) → Sits p locals n (Else c a) → Sits p locals n a
+  pub sits_else : (c : Constraint) (a : Agent) → Sits p locals n (Else c a) → Sits p locals n a
   sits_else c a s = record { scoped = s.scoped.1; fresh = s.fresh; counted = s.counted; few = s.few }
 
   pub sits_hence : (a : Agent) → Sits p locals n (Hence a) → Sits p locals n a

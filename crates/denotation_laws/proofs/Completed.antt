@@ -7,7 +7,7 @@ use Rattle.std.proofs.lemmas.Option.{slice_get_within}
 use Rattle.token_system.specs.Stores.{Valuation}
 use Rattle.token_system.proofs.Alike.{true_false}
 use Rattle.agent_core.specs.declared.node.Closure.{Closure}
-use Rattle.agent_core.specs.Agents.{Ask, agent_at}
+use Rattle.agent_core.specs.Agents.{Constraint, agent_at}
 use Rattle.agent_core.specs.Programs.{CoreProgram}
 use Rattle.agent_core.specs.Facts.{IsProgram}
 use Rattle.agent_core.specs.Closures.{started}
@@ -35,7 +35,7 @@ use Rattle.denotation_laws.specs.Dues.{is_upto, is_news, is_due, TellsOne, leave
 
 -- LEVELS
 
-upto-level : (table : List ℕ) (s k : ℕ) (c : Ask) → IsTrue (is_upto table k c) → least_told table s c ≤ k
+upto-level : (table : List ℕ) (s k : ℕ) (c : Constraint) → IsTrue (is_upto table k c) → least_told table s c ≤ k
 upto-level table s k [] h = absurd (true_false (sym h))
 upto-level table s k (x ∷ c) h = go (nat_le (slice_index table x.0) k) refl h (upto-level table s k c)
   where
@@ -43,7 +43,7 @@ upto-level table s k (x ∷ c) h = go (nat_le (slice_index table x.0) k) refl h 
     go true e g ih = let le : slice_index table x.0 ≤ k = grind (arith, nat_tests) in omega (arith, min-le_left (slice_index table x.0) (least_told table s c))
     go false e g ih = let le : least_told table s c ≤ k = ih g in omega (arith, min-le_right (slice_index table x.0) (least_told table s c))
 
-level-upto : (table : List ℕ) (s k : ℕ) (c : Ask) → Each (λ x. slice_index table x.0 < s) c → least_told table s c ≤ k → (c ≡ []) ⊎ IsTrue (is_upto table k c)
+level-upto : (table : List ℕ) (s k : ℕ) (c : Constraint) → Each (λ x. slice_index table x.0 < s) c → least_told table s c ≤ k → (c ≡ []) ⊎ IsTrue (is_upto table k c)
 level-upto table s k [] low le = inl refl
 level-upto table s k (x ∷ c) low le = inr (go (nat_le (slice_index table x.0) k) refl (level-upto table s k c low.1))
   where
@@ -153,7 +153,7 @@ module _ (p : CoreProgram) (table : List ℕ) (is : IsProgram p) (strat : Strati
   abbrev high : ℕ
   high = above_all table
 
-  cells_low : (b : List ℕ) (c : Ask) → AskFits p b c → Each (λ x. slice_index table x.0 < high) c
+  cells_low : (b : List ℕ) (c : Constraint) → AskFits p b c → Each (λ x. slice_index table x.0 < high) c
   cells_low b [] f = tt
   cells_low b (x ∷ c) f = (all_below p table x.0 (slice_get_within p.cells x.0 f.0.decl f.0.found), cells_low b c f.1)
 

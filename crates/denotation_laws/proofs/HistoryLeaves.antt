@@ -10,7 +10,7 @@ use Rattle.agent_core.specs.declared.node.Closure.{Closure}
 use Rattle.agent_core.specs.declared.node.Node.{Node}
 use Rattle.agent_core.specs.declared.node.Node.TheVariants as nodes
 use Rattle.agent_core.specs.Programs.{CoreProgram}
-use Rattle.agent_core.specs.Agents.{Agent, Ask, agent_of, agent_at}
+use Rattle.agent_core.specs.Agents.{Agent, Constraint, agent_of, agent_at}
 use Rattle.agent_core.specs.Listing.{size}
 use Rattle.agent_core.specs.Names.{IsClosure}
 use Rattle.agent_core.specs.Facts.{IsProgram}
@@ -64,7 +64,7 @@ module _ (p : CoreProgram) (is : IsProgram p) (n : ℕ) (b : List ℕ) (closure 
       ap (λ (y : List Valuation). leaves p (started p y (agent_at p.nodes m) m births (t - length y)) t) split
       ∙ ap (λ (i : ℕ). leaves p (of_agent (agent_at p.nodes m) i births) t) e
 
-  pub silent-since : (d : Node) → slice_get p.nodes n ≡ Some d → (d ≡ nodes.Skip) ⊎ ((c : Ask) × (d ≡ nodes.Tell c)) → [] ≡ leaves_since p t n b closed
+  pub silent-since : (d : Node) → slice_get p.nodes n ≡ Some d → (d ≡ nodes.Skip) ⊎ ((c : Constraint) × (d ≡ nodes.Tell c)) → [] ≡ leaves_since p t n b closed
   silent-since d found (inl e) = since-node nodes.Skip (found ∙ ap Some e)
   silent-since d found (inr e) = since-node (nodes.Tell e.0) (found ∙ ap Some e.1)
 
@@ -77,20 +77,20 @@ module _ (p : CoreProgram) (is : IsProgram p) (n : ℕ) (b : List ℕ) (closure 
       ∙ sym (leaves-append p t (of_agent (agent_at p.nodes left) (suc n) b) (of_agent (agent_at p.nodes right) (suc n + size (agent_at p.nodes left)) b))
       ∙ since-node (nodes.Par left right) found
 
-  pub then-waits : (c : Ask) (m : ℕ) → slice_get p.nodes n ≡ Some (nodes.Then c m) → entails p b w c ≡ false → [] ≡ leaves_since p t n b closed
+  pub then-waits : (c : Constraint) (m : ℕ) → slice_get p.nodes n ≡ Some (nodes.Then c m) → entails p b w c ≡ false → [] ≡ leaves_since p t n b closed
   then-waits c m found e =
       ap (λ (x : Bool). leaves p (if x then of_agent (agent_at p.nodes m) (suc n) b else []) t) (sym e) ∙ since-node (nodes.Then c m) found
 
-  pub then-since : (c : Ask) (m : ℕ) → slice_get p.nodes n ≡ Some (nodes.Then c m) → entails p b w c ≡ true → leaves_since p t m b closed ≡ leaves_since p t n b closed
+  pub then-since : (c : Constraint) (m : ℕ) → slice_get p.nodes n ≡ Some (nodes.Then c m) → entails p b w c ≡ true → leaves_since p t m b closed ≡ leaves_since p t n b closed
   then-since c m found e =
       body m b (suc n) (facts p is n b closure (nodes.Then c m) found).follow
       ∙ ap (λ (x : Bool). leaves p (if x then of_agent (agent_at p.nodes m) (suc n) b else []) t) (sym e) ∙ since-node (nodes.Then c m) found
 
-  pub else-waits : (c : Ask) (m : ℕ) → slice_get p.nodes n ≡ Some (nodes.Else c m) → entails p b w c ≡ true → [] ≡ leaves_since p t n b closed
+  pub else-waits : (c : Constraint) (m : ℕ) → slice_get p.nodes n ≡ Some (nodes.Else c m) → entails p b w c ≡ true → [] ≡ leaves_since p t n b closed
   else-waits c m found e =
       ap (λ (x : Bool). leaves p (if x then [] else of_agent (agent_at p.nodes m) (suc n) b) t) (sym e) ∙ since-node (nodes.Else c m) found
 
-  pub else-since : (c : Ask) (m : ℕ) → slice_get p.nodes n ≡ Some (nodes.Else c m) → entails p b w c ≡ false → leaves_since p t m b closed ≡ leaves_since p t n b closed
+  pub else-since : (c : Constraint) (m : ℕ) → slice_get p.nodes n ≡ Some (nodes.Else c m) → entails p b w c ≡ false → leaves_since p t m b closed ≡ leaves_since p t n b closed
   else-since c m found e =
       body m b (suc n) (facts p is n b closure (nodes.Else c m) found).follow
       ∙ ap (λ (x : Bool). leaves p (if x then [] else of_agent (agent_at p.nodes m) (suc n) b) t) (sym e) ∙ since-node (nodes.Else c m) found

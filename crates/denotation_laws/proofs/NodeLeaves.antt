@@ -7,7 +7,7 @@ use Rattle.token_system.specs.Stores.{Valuation}
 use Rattle.agent_core.specs.declared.node.Node.{Node}
 use Rattle.agent_core.specs.declared.node.Node.TheVariants as nodes
 use Rattle.agent_core.specs.Programs.{CoreProgram}
-use Rattle.agent_core.specs.Agents.{Agent, Ask, Skip, Hence, Next, agent_of, agent_at}
+use Rattle.agent_core.specs.Agents.{Agent, Constraint, Skip, Hence, Next, agent_of, agent_at}
 use Rattle.agent_core.specs.Listing.{size}
 use Rattle.agent_core.specs.Names.{IsClosure}
 use Rattle.agent_core.specs.Facts.{IsProgram}
@@ -44,7 +44,7 @@ module _ (p : CoreProgram) (is : IsProgram p) (n : ℕ) (b : List ℕ) (closure 
   silent-now d found (inr (inl e)) path run = by-node (nodes.Hence e.0) (found ∙ ap Some e.1) path false u ((quiet p table k u (leaf n (Hence (agent_at p.nodes e.0)) b path) refl, tt), refl)
   silent-now d found (inr (inr e)) path run = by-node (nodes.Next e.0) (found ∙ ap Some e.1) path false u ((quiet p table k u (leaf n (Next (agent_at p.nodes e.0)) b path) refl, tt), refl)
 
-  pub tell-now : {E : Type 0} (r : Result Bool E) (c : Ask) → slice_get p.nodes n ≡ Some (nodes.Tell c) → (w : Valuation) → IfOk r (λ told. Tells p table k b c u told w) → IfOk r (λ told. Below n b told w)
+  pub tell-now : {E : Type 0} (r : Result Bool E) (c : Constraint) → slice_get p.nodes n ≡ Some (nodes.Tell c) → (w : Valuation) → IfOk r (λ told. Tells p table k b c u told w) → IfOk r (λ told. Below n b told w)
   tell-now r c found w h =
       IfOk-weaker r (λ told. Tells p table k b c u told w) (λ told. Below n b told w) (λ told x path run. by-node (nodes.Tell c) found path told w (one-tell p table k u w n c b path told run x)) h
 
@@ -74,20 +74,20 @@ module _ (p : CoreProgram) (is : IsProgram p) (n : ℕ) (b : List ℕ) (closure 
           (one-right p table k (leaves_of t (agent_at p.nodes left) (suc n) b path) (leaves_of t (agent_at p.nodes right) (suc n + size (agent_at p.nodes left)) b path) u v w x first
           (subst (λ (i : ℕ). TellsOne p table k (leaves_of t (agent_at p.nodes right) i b path) v x w) place rest))
 
-  pub then-refused : (c : Ask) (m : ℕ) → slice_get p.nodes n ≡ Some (nodes.Then c m) → entails p b u c ≡ false → Below n b false u
+  pub then-refused : (c : Constraint) (m : ℕ) → slice_get p.nodes n ≡ Some (nodes.Then c m) → entails p b u c ≡ false → Below n b false u
   then-refused c m found e path run =
       by-node (nodes.Then c m) found path false u (blocked p table k u t (agent_at p.nodes m) (suc n) b (path ++ Asks b c ∷ []) (refused_more p table k u path (Asks b c) e), refl)
 
-  pub then-now : {E : Type 0} (r : Result Bool E) (c : Ask) (m : ℕ) → slice_get p.nodes n ≡ Some (nodes.Then c m) → entails p b u c ≡ true → (w : Valuation) → IfOk r (λ x. Below m b x w) → IfOk r (λ x. Below n b x w)
+  pub then-now : {E : Type 0} (r : Result Bool E) (c : Constraint) (m : ℕ) → slice_get p.nodes n ≡ Some (nodes.Then c m) → entails p b u c ≡ true → (w : Valuation) → IfOk r (λ x. Below m b x w) → IfOk r (λ x. Below n b x w)
   then-now r c m found e w h =
       IfOk-weaker r (λ x. Below m b x w) (λ x. Below n b x w)
       (λ x more path run. by-node (nodes.Then c m) found path x w (moved m b (path ++ Asks b c ∷ []) x w (facts p is n b closure (nodes.Then c m) found).follow (more (path ++ Asks b c ∷ []) (allowed_more p table k u path (Asks b c) run e)))) h
 
-  pub else-refused : (c : Ask) (m : ℕ) → slice_get p.nodes n ≡ Some (nodes.Else c m) → entails p b u c ≡ true → Below n b false u
+  pub else-refused : (c : Constraint) (m : ℕ) → slice_get p.nodes n ≡ Some (nodes.Else c m) → entails p b u c ≡ true → Below n b false u
   else-refused c m found e path run =
       by-node (nodes.Else c m) found path false u (blocked p table k u t (agent_at p.nodes m) (suc n) b (path ++ Denies b c ∷ []) (refused_more p table k u path (Denies b c) (ap not e)), refl)
 
-  pub else-now : {E : Type 0} (r : Result Bool E) (c : Ask) (m : ℕ) → slice_get p.nodes n ≡ Some (nodes.Else c m) → entails p b u c ≡ false → (w : Valuation) → IfOk r (λ x. Below m b x w) → IfOk r (λ x. Below n b x w)
+  pub else-now : {E : Type 0} (r : Result Bool E) (c : Constraint) (m : ℕ) → slice_get p.nodes n ≡ Some (nodes.Else c m) → entails p b u c ≡ false → (w : Valuation) → IfOk r (λ x. Below m b x w) → IfOk r (λ x. Below n b x w)
   else-now r c m found e w h =
       IfOk-weaker r (λ x. Below m b x w) (λ x. Below n b x w)
       (λ x more path run. by-node (nodes.Else c m) found path x w (moved m b (path ++ Denies b c ∷ []) x w (facts p is n b closure (nodes.Else c m) found).follow (more (path ++ Denies b c ∷ []) (allowed_more p table k u path (Denies b c) run (ap not e))))) h

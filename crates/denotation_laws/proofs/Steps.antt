@@ -5,7 +5,7 @@ use Rattle.std.specs.List.{list_all}
 use Rattle.std.proofs.lemmas.List.Folds.{list_all-append}
 use Rattle.token_system.specs.Stores.{Valuation}
 use Rattle.agent_core.specs.Programs.{CoreProgram}
-use Rattle.agent_core.specs.Agents.{Agent, Ask, Skip, Tell, Then, Else, Par, New, Hence, Next}
+use Rattle.agent_core.specs.Agents.{Agent, Constraint, Skip, Tell, Then, Else, Par, New, Hence, Next}
 use Rattle.agent_core.specs.Leaves.{Guard, Asks, Denies, Leaf, leaf, leaves_of, tells, allows, runs}
 use Rattle.agent_core.specs.Strata.{Each}
 use Rattle.agent_laws.proofs.Eachs.{Each-append}
@@ -21,13 +21,13 @@ module _ (p : CoreProgram) (table : List ℕ) (k : ℕ) where
   never true = refl
   never false = refl
 
-  pub not_upto-news : (u : Valuation) (b : List ℕ) (c : Ask) → is_upto table k c ≡ false → is_news p table k u b c ≡ false
+  pub not_upto-news : (u : Valuation) (b : List ℕ) (c : Constraint) → is_upto table k c ≡ false → is_news p table k u b c ≡ false
   not_upto-news u b c e = ap (λ x. x && not (entails p b u c)) e
 
-  pub told-news : (u : Valuation) (b : List ℕ) (c : Ask) → entails p b u c ≡ true → is_news p table k u b c ≡ false
+  pub told-news : (u : Valuation) (b : List ℕ) (c : Constraint) → entails p b u c ≡ true → is_news p table k u b c ≡ false
   told-news u b c e = ap (λ x. is_upto table k c && not x) e ∙ never (is_upto table k c)
 
-  pub upto-news : (u : Valuation) (b : List ℕ) (c : Ask) → is_upto table k c ≡ true → entails p b u c ≡ false → IsTrue (is_news p table k u b c)
+  pub upto-news : (u : Valuation) (b : List ℕ) (c : Constraint) → is_upto table k c ≡ true → entails p b u c ≡ false → IsTrue (is_news p table k u b c)
   upto-news u b c e f = ap (λ x. x && not (entails p b u c)) e ∙ ap not f
 
   -- ONE THAT TELLS
@@ -73,7 +73,7 @@ module _ (p : CoreProgram) (table : List ℕ) (k : ℕ) where
   neither : (a b : Bool) → a ≡ false → (a && b) ≡ false
   neither a b e = ap (λ x. x && b) e
 
-  pub one-tell : (u w : Valuation) (n : ℕ) (c : Ask) (b : List ℕ) (path : List Guard) (told : Bool) → IsTrue (list_all (allows p u) path) → Tells p table k b c u told w → One (leaf n (Tell c) b path ∷ []) u told w
+  pub one-tell : (u w : Valuation) (n : ℕ) (c : Constraint) (b : List ℕ) (path : List Guard) (told : Bool) → IsTrue (list_all (allows p u) path) → Tells p table k b c u told w → One (leaf n (Tell c) b path ∷ []) u told w
   one-tell u w n c b path true run h = (leaf n (Tell c) b path, inl refl, ap (λ x. x && is_news p table k u b c) run ∙ h.0, h.1)
   one-tell u w n c b path false run h = ((ap (λ x. x && is_news p table k u b c) run ∙ h.0, tt), h.1)
 
@@ -96,7 +96,7 @@ module _ (p : CoreProgram) (table : List ℕ) (k : ℕ) where
 
   -- leaves that tell nothing are not to tell
   pub quiet : (u : Valuation) (l : Leaf) → tells l.agent ≡ [] → is_due p table k u l ≡ false
-  quiet u l e = ap (λ (c : Ask). runs p u l && is_news p table k u l.births c) e ∙ never (runs p u l)
+  quiet u l e = ap (λ (c : Constraint). runs p u l && is_news p table k u l.births c) e ∙ never (runs p u l)
 
   -- a guard more that the store allows
   pub allowed_more : (u : Valuation) (path : List Guard) (g : Guard) → IsTrue (list_all (allows p u) path) → IsTrue (allows p u g) → IsTrue (list_all (allows p u) (path ++ g ∷ []))

@@ -8,7 +8,7 @@ use Rattle.token_system.specs.declared.name.CellName.{CellName}
 use Rattle.token_system.specs.Stores.{Valuation, told}
 use Rattle.agent_core.specs.declared.node.CellDecl.{CellDecl}
 use Rattle.agent_core.specs.Programs.{CoreProgram}
-use Rattle.agent_core.specs.Agents.{Ask}
+use Rattle.agent_core.specs.Agents.{Constraint}
 use Rattle.agent_core.specs.Names.{name_of}
 use Rattle.agent_core.specs.Stores.{IsStore}
 use Rattle.agent_core.specs.Scope.{TokenFits, AskFits}
@@ -25,12 +25,12 @@ read-told p b u cell t f n named all same d read =
     ∙ ap (λ (o : Option CellDecl). tell_at o p b u cell t) (sym f.found)
 
 -- what is left of the tokens is still to be told, from w on
-pub record IsLeftToTell (p : CoreProgram) (b : List ℕ) (items : Ask) (u : Valuation) (i : ℕ) (w : Valuation) : Type 0 where
+pub record IsLeftToTell (p : CoreProgram) (b : List ℕ) (items : Constraint) (u : Valuation) (i : ℕ) (w : Valuation) : Type 0 where
   pub same : tell_all p b (drop i items) w ≡ tell_all p b items u
   pub fits : AskFits p b (drop i items)
   pub store : IsStore p w
 
-module _ (p : CoreProgram) (b : List ℕ) (items : Ask) (u : Valuation) (i : ℕ) (w : Valuation) (left : IsLeftToTell p b items u i w) where
+module _ (p : CoreProgram) (b : List ℕ) (items : Constraint) (u : Valuation) (i : ℕ) (w : Valuation) (left : IsLeftToTell p b items u i w) where
   first_fits : (pair : ℕ × Token) → i < length items → TokenFits p b (get_or items i pair) × AskFits p b (drop (i + 1) items)
   first_fits pair lt = subst (AskFits p b) (drop_more items i pair lt) left.fits
 
@@ -40,10 +40,10 @@ module _ (p : CoreProgram) (b : List ℕ) (items : Ask) (u : Valuation) (i : ℕ
   pub token-told : (pair : ℕ × Token) → i < length items → (x : Valuation) → x ≡ tell_at (slice_get p.cells (get_or items i pair).0) p b w (get_or items i pair).0 (get_or items i pair).1
       → IsLeftToTell p b items u (i + 1) x
   token-told pair lt x e = record {
-    same = ap (λ (y : Valuation). tell_all p b (drop (i + 1) items) y) e ∙ ap (λ (xs : Ask). tell_all p b xs w) (sym (drop_more items i pair lt)) ∙ left.same;
+    same = ap (λ (y : Valuation). tell_all p b (drop (i + 1) items) y) e ∙ ap (λ (xs : Constraint). tell_all p b xs w) (sym (drop_more items i pair lt)) ∙ left.same;
     fits = (first_fits pair lt).1;
     store = subst (IsStore p) (sym e) (tells_one p b w (get_or items i pair) left.store (first_fits pair lt).0).store;
   }
 
-  pub all-told : length items ≤ i → (c : Ask) → items ≡ c → w ≡ tell_all p b c u
-  all-told le c same = ap (λ (xs : Ask). tell_all p b xs w) (sym (drop_all i items le)) ∙ left.same ∙ ap (λ (xs : Ask). tell_all p b xs u) same
+  pub all-told : length items ≤ i → (c : Constraint) → items ≡ c → w ≡ tell_all p b c u
+  all-told le c same = ap (λ (xs : Constraint). tell_all p b xs w) (sym (drop_all i items le)) ∙ left.same ∙ ap (λ (xs : Constraint). tell_all p b xs u) same

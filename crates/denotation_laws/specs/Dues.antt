@@ -2,7 +2,7 @@
 use Rattle.std.specs.Prelude.{◌≡◌, ℕ, ◌-◌, Bool, true, false, ◌&&◌, not, List, [], length, flat_map, IsTrue, nat_le, slice_index}
 use Rattle.std.specs.List.{list_any, list_all}
 use Rattle.token_system.specs.Stores.{Valuation}
-use Rattle.agent_core.specs.Agents.{Ask, agent_at}
+use Rattle.agent_core.specs.Agents.{Constraint, agent_at}
 use Rattle.agent_core.specs.Programs.{CoreProgram}
 use Rattle.agent_core.specs.Observed.{suffixes}
 use Rattle.agent_core.specs.Closures.{started}
@@ -12,11 +12,11 @@ use Rattle.agent_core.specs.Strata.{Each, In}
 use Rattle.agent_core.specs.Tellings.{tell_all}
 
 -- some cell of the constraint is of at most stratum k
-abbrev pub is_upto : List ℕ → ℕ → Ask → Bool
+abbrev pub is_upto : List ℕ → ℕ → Constraint → Bool
 is_upto table k told = list_any (λ x. nat_le (slice_index table x.0) k) told
 
 -- so it is, and the store does not yet entail the constraint
-abbrev pub is_news : CoreProgram → List ℕ → ℕ → Valuation → List ℕ → Ask → Bool
+abbrev pub is_news : CoreProgram → List ℕ → ℕ → Valuation → List ℕ → Constraint → Bool
 is_news p table k u b told = is_upto table k told && not (entails p b u told)
 
 -- the leaf is to tell: the store runs it, it tells a cell of at most stratum k, and the store does not yet entail what it tells
@@ -24,7 +24,7 @@ abbrev pub is_due : CoreProgram → List ℕ → ℕ → Valuation → Leaf → 
 is_due p table k u l = runs p u l && is_news p table k u l.births (tells l.agent)
 
 -- from u to w the constraint was told, since it was news; or it was not, and nothing was told
-abbrev pub Tells : CoreProgram → List ℕ → ℕ → List ℕ → Ask → Valuation → Bool → Valuation → Type 0
+abbrev pub Tells : CoreProgram → List ℕ → ℕ → List ℕ → Constraint → Valuation → Bool → Valuation → Type 0
 Tells p table k b ask u true w = IsTrue (is_news p table k u b ask) × (w ≡ tell_all p b ask u)
 Tells p table k b ask u false w = (is_news p table k u b ask ≡ false) × (w ≡ u)
 

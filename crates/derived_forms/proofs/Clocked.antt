@@ -4,7 +4,7 @@ use Rattle.std.specs.Prelude.{◌≢◌}
 use Rattle.std.specs.List.{flat_map}
 use Rattle.std.proofs.lemmas.List.{append-nil, append_assoc, length-append}
 use Rattle.std.proofs.lemmas.List.Concat.{flat_map-append}
-use Rattle.agent_core.specs.Agents.{Ask}
+use Rattle.agent_core.specs.Agents.{Constraint}
 use Rattle.expansion_laws.specs.Sketches.{Sketch, Skip, Tell, Then, Else, Par, New, Hence, Next, size}
 use Rattle.expansion_laws.specs.Table.{when, clocked}
 use Rattle.derived_forms.specs.declared.piece.Piece.{Piece}
@@ -13,14 +13,14 @@ use Rattle.derived_forms.specs.Pieces.{first, parts, pieces}
 use Rattle.derived_forms.proofs.Sketched.{length-pieces}
 
 -- the nodes of a sketch on the clock
-abbrev pub on_clock : ℕ → Ask → Sketch → List Piece
+abbrev pub on_clock : ℕ → Constraint → Sketch → List Piece
 on_clock k c d = pieces (clocked k c d)
 
 one_part : (p : Piece) (l : List Piece) → p ∷ l ≡ p ∷ (l ++ [])
 one_part p l = ap (λ m. p ∷ m) (sym (append-nil l))
 
 -- Of a form that leaves nothing for later, the parts alone are put on the clock.
-pub clocked_other : (k : ℕ) (c : Ask) (d : Sketch) → first d ≢ piece.Hence → first d ≢ piece.Next → on_clock k c d ≡ first d ∷ flat_map (on_clock k c) (parts d)
+pub clocked_other : (k : ℕ) (c : Constraint) (d : Sketch) → first d ≢ piece.Hence → first d ≢ piece.Next → on_clock k c d ≡ first d ∷ flat_map (on_clock k c) (parts d)
 clocked_other k c (Skip o) h n = refl
 clocked_other k c (Tell o b) h n = refl
 clocked_other k c (Then o b a) h n = one_part (piece.Then b) (on_clock k c a)
@@ -31,7 +31,7 @@ clocked_other k c (Hence o a) h n = absurd (h refl)
 clocked_other k c (Next o a) h n = absurd (n refl)
 
 -- no form is shorter than its parts together
-pub parts_shorter : (k : ℕ) (c : Ask) (d : Sketch) → length (flat_map (on_clock k c) (parts d)) ≤ length (on_clock k c d)
+pub parts_shorter : (k : ℕ) (c : Constraint) (d : Sketch) → length (flat_map (on_clock k c) (parts d)) ≤ length (on_clock k c d)
 parts_shorter k c (Skip o) = omega arith
 parts_shorter k c (Tell o b) = omega arith
 parts_shorter k c (Then o b a) = let e = ap length (append-nil (on_clock k c a)) in omega arith
@@ -48,14 +48,14 @@ parts_shorter k c (Next o a) =
     let g = length-pieces (when k c (clocked k c a)) in omega arith
 
 -- a node in front of its parts is not longer than its form
-pub other_fits : (k : ℕ) (c : Ask) (d : Sketch) (old rest : List Piece) → first d ≢ piece.Hence → first d ≢ piece.Next → old ≡ flat_map (on_clock k c) (parts d) ++ rest → length old + 1 ≤ size (clocked k c d) + length rest
+pub other_fits : (k : ℕ) (c : Constraint) (d : Sketch) (old rest : List Piece) → first d ≢ piece.Hence → first d ≢ piece.Next → old ≡ flat_map (on_clock k c) (parts d) ++ rest → length old + 1 ≤ size (clocked k c d) + length rest
 other_fits k c d old rest h n e =
     let f = ap length e in
     let g = length-append (flat_map (on_clock k c) (parts d)) rest in
     let i = ap length (clocked_other k c d h n) in
     let j = length-pieces (clocked k c d) in omega arith
 
-pub hence_fits : (k : ℕ) (c : Ask) (d : Sketch) (old rest : List Piece) → piece.Hence ≡ first d → old ≡ flat_map (on_clock k c) (parts d) ++ rest → length old + 2 ≤ size (clocked k c d) + length rest
+pub hence_fits : (k : ℕ) (c : Constraint) (d : Sketch) (old rest : List Piece) → piece.Hence ≡ first d → old ≡ flat_map (on_clock k c) (parts d) ++ rest → length old + 2 ≤ size (clocked k c d) + length rest
 hence_fits k c (Skip o) old rest h e = cc
 hence_fits k c (Tell o b) old rest h e = cc
 hence_fits k c (Then o b a) old rest h e = cc
@@ -69,7 +69,7 @@ hence_fits k c (Hence o a) old rest h e =
     let i = ap length (append-nil (on_clock k c a)) in
     let j = length-pieces (clocked k c a) in omega arith
 
-pub next_fits : (k : ℕ) (c : Ask) (d : Sketch) (old new rest : List Piece) → piece.Next ≡ first d → old ≡ flat_map (on_clock k c) (parts d) ++ rest → ((a : Sketch) (rest : List Piece) → old ≡ pieces a ++ rest → new ≡ pieces (when k c a) ++ rest) → length new + 1 ≤ size (clocked k c d) + length rest
+pub next_fits : (k : ℕ) (c : Constraint) (d : Sketch) (old new rest : List Piece) → piece.Next ≡ first d → old ≡ flat_map (on_clock k c) (parts d) ++ rest → ((a : Sketch) (rest : List Piece) → old ≡ pieces a ++ rest → new ≡ pieces (when k c a) ++ rest) → length new + 1 ≤ size (clocked k c d) + length rest
 next_fits k c (Skip o) old new rest h e grown = cc
 next_fits k c (Tell o b) old new rest h e grown = cc
 next_fits k c (Then o b a) old new rest h e grown = cc

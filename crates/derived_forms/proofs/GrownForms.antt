@@ -2,7 +2,7 @@
 use Rattle.std.proofs.Common.{◌≡◌, ℕ, suc, ◌+◌, ◌≤◌, List, [], ◌∷◌, ◌++◌, length, refl, ap, sym, ◌∙◌, arith}
 use Rattle.std.specs.List.{flat_map}
 use Rattle.std.proofs.lemmas.List.{append-nil, length-append}
-use Rattle.agent_core.specs.Agents.{Ask}
+use Rattle.agent_core.specs.Agents.{Constraint}
 use Rattle.tdcc_reader.specs.declared.surface.Form.{Form}
 use Rattle.tdcc_reader.specs.declared.surface.Form.TheVariants as form
 use Rattle.tdcc_reader.specs.Trees.{Tree, listing}
@@ -82,7 +82,7 @@ size-guarded k (New o mark a) = let i = size-guarded k a in omega arith
 size-guarded k (Hence o a) = let i = size-guarded k a in omega arith
 size-guarded k (Next o a) = let i = size-guarded k a in omega arith
 
-size-clocked : (k : ℕ) (c : Ask) (d : Sketch) → size d ≤ size (clocked k c d)
+size-clocked : (k : ℕ) (c : Constraint) (d : Sketch) → size d ≤ size (clocked k c d)
 size-clocked k c (Skip o) = omega arith
 size-clocked k c (Tell o b) = omega arith
 size-clocked k c (Then o b a) = let i = size-clocked k c a in omega arith

@@ -4,7 +4,7 @@ use Rattle.std.specs.Prelude.{map, option_to_list, reverse}
 use Rattle.std.specs.List.{flat_map}
 use Rattle.std.proofs.lemmas.List.{append-nil, append_assoc, length-append, map-append}
 use Rattle.std.proofs.lemmas.List.Concat.{flat_map-append}
-use Rattle.agent_core.specs.Agents.{Ask}
+use Rattle.agent_core.specs.Agents.{Constraint}
 use Rattle.expansion_laws.specs.Numbering.{Placed, agent_of, ask_of, placed}
 use Rattle.expansion_laws.specs.Sketches.{Sketch, Skip, Tell, Then, Else, Par, New, Hence, Next, marks}
 use Rattle.derived_forms.specs.declared.piece.Piece.{Piece}
@@ -98,7 +98,7 @@ leaf_none s n (New o mark a) e = cc
 leaf_none s n (Hence o a) e = cc
 leaf_none s n (Next o a) e = cc
 
-tell_alone : (c : Ask) (d : Sketch) → piece.Tell c ≡ first d → parts d ≡ []
+tell_alone : (c : Constraint) (d : Sketch) → piece.Tell c ≡ first d → parts d ≡ []
 tell_alone c (Skip o) e = refl
 tell_alone c (Tell o b) e = refl
 tell_alone c (Then o b a) e = cc
@@ -123,7 +123,7 @@ leaf_scopes w outer s none h =
     let P : List Work → Type 0 = λ ws. AreScopes s (map work_scope ws ++ outer) in
     subst P (sym (leaf_none w.scope w.next w.sketch none)) h
 
-pub tell_scopes : (c : Ask) (w : Work) (outer : List (List Placed)) (s : Scope) → piece.Tell c ≡ first w.sketch → AreScopes s outer → AreScopes s (map work_scope (part_works w) ++ outer)
+pub tell_scopes : (c : Constraint) (w : Work) (outer : List (List Placed)) (s : Scope) → piece.Tell c ≡ first w.sketch → AreScopes s outer → AreScopes s (map work_scope (part_works w) ++ outer)
 tell_scopes c w outer s e h = leaf_scopes w outer s (tell_alone c w.sketch e) h
 
 pub skip_scopes : (w : Work) (outer : List (List Placed)) (s : Scope) → piece.Skip ≡ first w.sketch → AreScopes s outer → AreScopes s (map work_scope (part_works w) ++ outer)

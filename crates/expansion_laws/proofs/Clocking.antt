@@ -4,7 +4,7 @@ use Rattle.std.specs.Prelude.{Option, unwrap_or, Contains}
 use Rattle.std.proofs.lemmas.List.{append-nil}
 use Rattle.std.proofs.lemmas.List.Elements.{Contains-append_left, Contains-push}
 use Rattle.token_system.specs.declared.cell.Token.{Token}
-use Rattle.agent_core.specs.Agents.{Ask}
+use Rattle.agent_core.specs.Agents.{Constraint}
 use Rattle.agent_core.specs.Leaves.{Guard, Asks, Denies}
 use Rattle.agent_core.specs.Facts.{AreInScope}
 use Rattle.agent_core.specs.Programs.{CoreProgram}
@@ -21,8 +21,8 @@ use Rattle.expansion_laws.proofs.Stemming.{Has, has_own}
 use Rattle.expansion_laws.proofs.Enclosing.{IsBelow, IsValid, stands}
 
 -- the path asks for a constraint that copies this one, read where the news of its local cells were around
-pub record IsClocked (ms : List ℕ) (floor : ℕ) (c : Ask) (w : Way) : Type 0 where
-  pub ask : Ask
+pub record IsClocked (ms : List ℕ) (floor : ℕ) (c : Constraint) (w : Way) : Type 0 where
+  pub ask : Constraint
   pub copies : copied ms ask ≡ c
   pub births : List ℕ
   pub more : List ℕ
@@ -34,7 +34,7 @@ pub record IsClocked (ms : List ℕ) (floor : ℕ) (c : Ask) (w : Way) : Type 0 
   pub known : AreKnown floor (cells_of older) ask
   pub asks : Contains w.path (Asks births ask)
 
-pub clocked_on : (ms : List ℕ) (floor : ℕ) (c : Ask) (w : Way) (g : Guard) → IsClocked ms floor c w → IsClocked ms floor c (below w g)
+pub clocked_on : (ms : List ℕ) (floor : ℕ) (c : Constraint) (w : Way) (g : Guard) → IsClocked ms floor c w → IsClocked ms floor c (below w g)
 clocked_on ms floor c w g h = record {
   ask = h.ask;
   copies = h.copies;
@@ -50,27 +50,27 @@ clocked_on ms floor c w g h = record {
 }
 
 -- each cell of the constraint is read in this scope
-abbrev pub ReadsAll : List ℕ → ℕ → List Placed → Ask → Type 0
+abbrev pub ReadsAll : List ℕ → ℕ → List Placed → Constraint → Type 0
 ReadsAll ms floor scope c = Each (λ (pair : ℕ × Token). Reads ms floor scope pair.0) c
 
 module _ (ms : List ℕ) (floor : ℕ) where
   -- the constraint is copied
-  pub read_back : (scope : List Placed) (c : Ask) → ReadsAll ms floor scope c → copied ms (ask_of scope c) ≡ c
+  pub read_back : (scope : List Placed) (c : Constraint) → ReadsAll ms floor scope c → copied ms (ask_of scope c) ≡ c
   read_back scope [] h = refl
   read_back scope (pair ∷ c) h =
       ap (λ (cell : ℕ). (cell, pair.1) ∷ copied ms (ask_of scope c)) (ap (λ o. unwrap_or o (cell_of scope pair.0)) h.0.marked)
-      ∙ ap (λ (ask : Ask). pair ∷ ask) (read_back scope c h.1)
+      ∙ ap (λ (ask : Constraint). pair ∷ ask) (read_back scope c h.1)
 
-  pub all_known : (scope : List Placed) (c : Ask) → ReadsAll ms floor scope c → AreKnown floor (cells_of scope) (ask_of scope c)
+  pub all_known : (scope : List Placed) (c : Constraint) → ReadsAll ms floor scope c → AreKnown floor (cells_of scope) (ask_of scope c)
   all_known scope [] h = tt
   all_known scope (pair ∷ c) h = (h.0.known, all_known scope c h.1)
 
-  wider : (w v : Way) → Opens ms w v → (c : Ask) → ReadsAll ms floor w.scope c → ReadsAll ms floor v.scope c
+  wider : (w v : Way) → Opens ms w v → (c : Constraint) → ReadsAll ms floor w.scope c → ReadsAll ms floor v.scope c
   wider w v o [] h = tt
   wider w v o (pair ∷ c) h = (o.wide floor pair.0 h.0, wider w v o c h.1)
 
   -- below the ask itself
-  pub asked_clocked : (w : Way) (c : Ask) → IsEven w → ReadsAll ms floor w.scope c → IsClocked ms floor c (asked w c)
+  pub asked_clocked : (w : Way) (c : Constraint) → IsEven w → ReadsAll ms floor w.scope c → IsClocked ms floor c (asked w c)
   asked_clocked w c even h = record {
     ask = ask_of w.scope c;
     copies = read_back w.scope c h;
@@ -85,7 +85,7 @@ module _ (ms : List ℕ) (floor : ℕ) where
     asks = Contains-push w.path (Asks w.births (ask_of w.scope c));
   }
 
-  born_clocked : (w : Way) (c : Ask) (mark cell t : ℕ) → IsClocked ms floor c w → IsClocked ms floor c (born w mark cell t)
+  born_clocked : (w : Way) (c : Constraint) (mark cell t : ℕ) → IsClocked ms floor c w → IsClocked ms floor c (born w mark cell t)
   born_clocked w c mark cell t h = record {
     ask = h.ask;
     copies = h.copies;
@@ -100,7 +100,7 @@ module _ (ms : List ℕ) (floor : ℕ) where
     asks = h.asks;
   }
 
-  module _ (R : Option ℕ → Way → Ask → Type 0) (d : ℕ) (c : Ask) (has : (o : Option ℕ) (w : Way) (b : Ask) → IsClocked ms floor c w → R o w b) (own : Own ms R d) where
+  module _ (R : Option ℕ → Way → Constraint → Type 0) (d : ℕ) (c : Constraint) (has : (o : Option ℕ) (w : Way) (b : Constraint) → IsClocked ms floor c w → R o w b) (own : Own ms R d) where
     -- what holds wherever c is asked for holds of when c do A
     whenever : (a : Sketch) → ((w : Way) → IsEven w → ReadsAll ms floor w.scope c → IsClocked ms floor c w → EachTell ms R w a) → (w : Way) → IsEven w → ReadsAll ms floor w.scope c → EachTell ms R w (when d c a)
     whenever a h w even reads cell t e = always_kept ms R under inner ever under same
@@ -138,7 +138,7 @@ module _ (ms : List ℕ) (floor : ℕ) where
     time_clocks a w even reads = whenever (clocked d c a) (clocks_each a) w even reads
 
   -- what is in scope is read
-  pub in_scope : (p : CoreProgram) → (locals : List ℕ) (w : Way) → p.declared ≡ floor → IsValid ms floor locals w → (c : Ask) → AreInScope p locals c → ReadsAll ms floor w.scope c
+  pub in_scope : (p : CoreProgram) → (locals : List ℕ) (w : Way) → p.declared ≡ floor → IsValid ms floor locals w → (c : Constraint) → AreInScope p locals c → ReadsAll ms floor w.scope c
   in_scope p locals w same v [] h = tt
   in_scope p locals w same v (pair ∷ c) h = (v.reads pair.0 (go h.0.visible), in_scope p locals w same v c h.1)
     where
@@ -147,7 +147,7 @@ module _ (ms : List ℕ) (floor : ℕ) where
       go (inr among) = inr among
 
 -- in the sketch of a tree each tell that stems from a form inside this time is on the clock
-pub tree_clocks : (q : CoreProgram) (cells : ℕ) (ms : List ℕ) (tree : Tree) (m : ℕ) (a : Tree) (c : Ask) → Scoped q [] tree → ((mark : ℕ) → IsKnown q.declared [] mark → Reads ms q.declared [] mark) → Contains (parts 0 tree) (part m (Time a c))
+pub tree_clocks : (q : CoreProgram) (cells : ℕ) (ms : List ℕ) (tree : Tree) (m : ℕ) (a : Tree) (c : Constraint) → Scoped q [] tree → ((mark : ℕ) → IsKnown q.declared [] mark → Reads ms q.declared [] mark) → Contains (parts 0 tree) (part m (Time a c))
     → EachTell ms (Has cells ms (IsBelow m (Time a c)) (IsClocked ms q.declared c)) (way [] [] []) (sketch_of cells 0 tree)
 tree_clocks q cells ms tree m a c scoped read k =
     let In = IsBelow m (Time a c) in

@@ -7,7 +7,7 @@ use Rattle.token_system.specs.declared.cell.Token.{Token}
 use Rattle.token_system.specs.declared.name.CellName.{CellName}
 use Rattle.token_system.specs.declared.name.CellName.TheVariants.{Declared, Local}
 use Rattle.token_system.specs.Stores.{Valuation}
-use Rattle.agent_core.specs.Agents.{Ask}
+use Rattle.agent_core.specs.Agents.{Constraint}
 use Rattle.agent_core.specs.Agents as agent
 use Rattle.agent_core.specs.Programs.{CoreProgram}
 use Rattle.agent_core.specs.Names.{depth_of, new_of, local_name, name_of}
@@ -68,7 +68,7 @@ around_one p n cells cell over among =
     record { new = o.new; body = o.body; found = o.found; behind = o.behind; inside = omega arith }
 
 -- each known cell is declared, or its new stands around
-all_around : (p : CoreProgram) (n : ℕ) (cells : List ℕ) → AreOver p n 1 cells → (ask : Ask) → AreKnown p.declared cells ask → AreAround p ask n
+all_around : (p : CoreProgram) (n : ℕ) (cells : List ℕ) → AreOver p n 1 cells → (ask : Constraint) → AreKnown p.declared cells ask → AreAround p ask n
 all_around p n cells over ask known =
     each_all (λ (pair : ℕ × Token). (pair.0 < p.declared) ⊎ IsAround p pair.0 n) ask
     (Each-map (λ (pair : ℕ × Token). IsKnown p.declared cells pair.0) (λ (pair : ℕ × Token). (pair.0 < p.declared) ⊎ IsAround p pair.0 n) (λ pair h. one pair.0 h) ask known)
@@ -112,7 +112,7 @@ in_scope_there form s tree well forms = subst (λ (t : Tree). Scoped (bare s) []
 -- LEAVES
 
 -- the leaf that stands at a tell stems from the form from which the tell does
-pub stems_there : (s : SurfaceProgram) (d : Sketch) (l : Leaf) (told : Ask) (form : ℕ) (o : Option ℕ) → slice_get (origins d) l.node ≡ Some o → l.agent ≡ agent.Tell told → StemsFrom s d l form → Stems (length s.cells) (cell_marks s d) o told form
+pub stems_there : (s : SurfaceProgram) (d : Sketch) (l : Leaf) (told : Constraint) (form : ℕ) (o : Option ℕ) → slice_get (origins d) l.node ≡ Some o → l.agent ≡ agent.Tell told → StemsFrom s d l form → Stems (length s.cells) (cell_marks s d) o told form
 stems_there s d l told form o found tells (inl e) = inl (cc)
 stems_there s d l told form o found tells (inr (e, added)) = inr (cc, (added.0, added.1, let same = added.2 in cc))
 
@@ -130,7 +130,7 @@ module _ (s : SurfaceProgram) (tree : Tree) (p : CoreProgram) (made : IsProgramO
       let at = sketch_told p ms s.declared sketch (Has cells ms (IsBelow m x) G) made.nodes (marks_stand s sketch) each z (length z) l inside.leaf inside.ask inside.tells in
       let stems = stems_there s sketch l inside.ask inside.form at.origin at.found inside.tells inside.stems in
       let before = inside.before in
-      let same = subst (λ (ask : Ask). Stems cells ms at.origin ask inside.form) at.tells stems in
+      let same = subst (λ (ask : Constraint). Stems cells ms at.origin ask inside.form) at.tells stems in
       (at.scope, at.over, at.holds inside.form same (inside.behind, omega arith))
 
 pub guarded_leaves : (s : SurfaceProgram) (tree : Tree) (p : CoreProgram) → IsProgramOf s (sketch_of (length s.cells) 0 tree) p → TellsAreGuarded s tree (sketch_of (length s.cells) 0 tree) p
@@ -142,7 +142,7 @@ guarded_leaves s tree p made m a c z l at inside =
     (g.cell, g.marked, around_one p l.node (cells_of there.0) g.cell there.1 g.around, g.denies)
 
 -- what is known of the cells of the clock's ask
-module _ (s : SurfaceProgram) (p : CoreProgram) (is : IsProgram p) (same : p.declared ≡ s.declared) (ms : List ℕ) (c : Ask) (scope : List Placed) (l : Leaf) (over : AreOver p l.node 1 (cells_of scope)) (g : IsClocked ms s.declared c (way scope l.births l.path)) where
+module _ (s : SurfaceProgram) (p : CoreProgram) (is : IsProgram p) (same : p.declared ≡ s.declared) (ms : List ℕ) (c : Constraint) (scope : List Placed) (l : Leaf) (over : AreOver p l.node 1 (cells_of scope)) (g : IsClocked ms s.declared c (way scope l.births l.path)) where
   still_over : AreOver p l.node 1 (cells_of g.older)
   still_over = over_older p l.node 1 g.newer g.older (subst (λ (q : List Placed). AreOver p l.node 1 (cells_of q)) g.last over)
 
@@ -184,9 +184,9 @@ stemming_leaves s tree p scoped made z l ask leaf tells =
     let at = sketch_told p ms s.declared d (Stemming (bare s) cells ms (parts 0 tree)) made.nodes (marks_stand s d) each z (length z) l leaf ask tells in
     go (cell_marks s d) at.origin at.found at.scope at.over at.ask at.tells at.holds refl
   where
-    go : (ms : List ℕ) (o : Option ℕ) → slice_get (origins (sketch_of (length s.cells) 0 tree)) l.node ≡ Some o → (scope : List Placed) → AreOver p l.node 1 (cells_of scope) → (b : Ask) → ask ≡ ask_of scope b
+    go : (ms : List ℕ) (o : Option ℕ) → slice_get (origins (sketch_of (length s.cells) 0 tree)) l.node ≡ Some o → (scope : List Placed) → AreOver p l.node 1 (cells_of scope) → (b : Constraint) → ask ≡ ask_of scope b
         → Stemming (bare s) (length s.cells) ms (parts 0 tree) o (way scope l.births l.path) b → ms ≡ cell_marks s (sketch_of (length s.cells) 0 tree)
-        → ((m : ℕ) × (c : Ask) × Contains (parts 0 tree) (part m (Tell c)) × IsCopyOf s (sketch_of (length s.cells) 0 tree) p m c l ask)
+        → ((m : ℕ) × (c : Constraint) × Contains (parts 0 tree) (part m (Tell c)) × IsCopyOf s (sketch_of (length s.cells) 0 tree) p m c l ask)
         ⊎ ((m : ℕ) × (t : Tree) × Contains (parts 0 tree) (part m t) × IsAddedFor s (sketch_of (length s.cells) 0 tree) p m l ask)
     go ms o found scope over b same (inl c) e = inl (
       c.form,
@@ -195,7 +195,7 @@ stemming_leaves s tree p scoped made z l ask leaf tells =
       record {
         origin = found ∙ ap Some c.origin;
         copies = ap (copied (cell_marks s (sketch_of (length s.cells) 0 tree))) same ∙ subst (λ (xs : List ℕ). copied xs (ask_of scope b) ≡ c.ask) e c.copies;
-        around = all_around p l.node (cells_of scope) over ask (subst (λ (x : Ask). AreKnown p.declared (cells_of scope) x) (sym same) (subst (λ (floor : ℕ). AreKnown floor (cells_of scope) (ask_of scope b)) (sym made.declared) c.known));
+        around = all_around p l.node (cells_of scope) over ask (subst (λ (x : Constraint). AreKnown p.declared (cells_of scope) x) (sym same) (subst (λ (floor : ℕ). AreKnown floor (cells_of scope) (ask_of scope b)) (sym made.declared) c.known));
       },
     )
     go ms o found scope over b same (inr a) e = inr (

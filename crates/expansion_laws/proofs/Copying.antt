@@ -2,7 +2,7 @@
 use Rattle.std.proofs.Common.{◌≡◌, ℕ, suc, ◌+◌, List, [], ◌∷◌, ◌++◌, Some, None, refl, ◌⊎◌, inl, inr}
 use Rattle.std.specs.Prelude.{Option, slice_get, Contains}
 use Rattle.std.proofs.lemmas.List.Elements.{Contains-append_left, Contains-append_right}
-use Rattle.agent_core.specs.Agents.{Ask}
+use Rattle.agent_core.specs.Agents.{Constraint}
 use Rattle.agent_core.specs.Leaves.{Guard}
 use Rattle.agent_core.specs.Facts.{IsAmong}
 use Rattle.agent_core.specs.Programs.{CoreProgram}
@@ -18,16 +18,16 @@ use Rattle.expansion_laws.proofs.Enclosing.{IsValid, valid_opens, valid_born}
 use Rattle.expansion_laws.proofs.Clocking.{read_back, all_known, in_scope}
 
 -- the tell with this origin copies the one that form m is
-pub record IsCopyAt (ms : List ℕ) (floor : ℕ) (whole : List Part) (o : Option ℕ) (w : Way) (b : Ask) : Type 0 where
+pub record IsCopyAt (ms : List ℕ) (floor : ℕ) (whole : List Part) (o : Option ℕ) (w : Way) (b : Constraint) : Type 0 where
   pub form : ℕ
-  pub ask : Ask
+  pub ask : Constraint
   pub there : Contains whole (part form (Tell ask))
   pub origin : o ≡ Some form
   pub copies : copied ms (ask_of w.scope b) ≡ ask
   pub known : AreKnown floor (cells_of w.scope) (ask_of w.scope b)
 
 -- the tell with this origin tells the hidden signal of a form
-pub record IsAddedAt (cells : ℕ) (ms : List ℕ) (whole : List Part) (o : Option ℕ) (w : Way) (b : Ask) : Type 0 where
+pub record IsAddedAt (cells : ℕ) (ms : List ℕ) (whole : List Part) (o : Option ℕ) (w : Way) (b : Constraint) : Type 0 where
   pub form : ℕ
   pub tree : Tree
   pub there : Contains whole (part form tree)
@@ -38,11 +38,11 @@ pub record IsAddedAt (cells : ℕ) (ms : List ℕ) (whole : List Part) (o : Opti
   pub tells : ask_of w.scope b ≡ on hidden
 
 module _ (q : CoreProgram) (cells : ℕ) (ms : List ℕ) (whole : List Part) where
-  abbrev pub Stemming : Option ℕ → Way → Ask → Type 0
+  abbrev pub Stemming : Option ℕ → Way → Constraint → Type 0
   Stemming o w b = IsCopyAt ms q.declared whole o w b ⊎ IsAddedAt cells ms whole o w b
 
   -- one more guard changes nothing
-  still : (o : Option ℕ) (w : Way) (b : Ask) (g : Guard) → Stemming o w b → Stemming o (below w g) b
+  still : (o : Option ℕ) (w : Way) (b : Constraint) (g : Guard) → Stemming o w b → Stemming o (below w g) b
   still o w b g (inl c) = inl (record { form = c.form; ask = c.ask; there = c.there; origin = c.origin; copies = c.copies; known = c.known })
   still o w b g (inr a) = inr (record { form = a.form; tree = a.tree; there = a.there; origin = a.origin; hidden = a.hidden; marked = a.marked; around = a.around; tells = a.tells })
 

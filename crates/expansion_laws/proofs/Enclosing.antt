@@ -2,7 +2,7 @@
 use Rattle.std.proofs.Common.{◌≡◌, ℕ, suc, ◌+◌, ◌<◌, ◌≤◌, List, [], ◌∷◌, ◌++◌, Some, refl, ap, subst, arith, ◌⊎◌, ⊎_elim, inl, inr}
 use Rattle.std.specs.Prelude.{Option, slice_get, Contains}
 use Rattle.std.proofs.lemmas.List.Elements.{Contains-append_cases}
-use Rattle.agent_core.specs.Agents.{Ask}
+use Rattle.agent_core.specs.Agents.{Constraint}
 use Rattle.agent_core.specs.Leaves.{Guard}
 use Rattle.agent_core.specs.Programs.{CoreProgram}
 use Rattle.tdcc_reader.specs.Trees.{Tree, Skip, Tell, Then, Else, Par, New, Hence, Next, Always, When, Watch, Time, size}
@@ -43,10 +43,10 @@ abbrev pub IsBelow : ℕ → Tree → ℕ → Type 0
 IsBelow m x form = (m < form) × (form < m + size x)
 
 module _ (cells : ℕ) (ms : List ℕ) (floor m : ℕ) (x : Tree) (G : Way → Type 0) (push : (w : Way) (g : Guard) → G w → G (below w g)) where
-  abbrev R : Option ℕ → Way → Ask → Type 0
+  abbrev R : Option ℕ → Way → Constraint → Type 0
   R = Has cells ms (IsBelow m x) G
 
-  push_on : (o : Option ℕ) (w : Way) (c : Ask) (g : Guard) → R o w c → R o (below w g) c
+  push_on : (o : Option ℕ) (w : Way) (c : Constraint) (g : Guard) → R o w c → R o (below w g) c
   push_on = has_below cells ms (IsBelow m x) G push
 
   own : (n : ℕ) → (IsBelow m x n → ⊥) → Own ms R (cells + n)

@@ -3,7 +3,7 @@
 use Rattle.std.proofs.Common.{◌≡◌, ◌⊎◌, inl, inr, ℕ, suc, ◌+◌, ◌<◌, ◌≤◌, List, [], ◌∷◌, ◌++◌, length, Some, refl, sym, ap, subst, arith}
 use Rattle.std.specs.Prelude.{slice_get, Contains}
 use Rattle.std.proofs.lemmas.List.Elements.{Contains-append_cases}
-use Rattle.agent_core.specs.Agents.{Ask}
+use Rattle.agent_core.specs.Agents.{Constraint}
 use Rattle.agent_core.specs.Facts.{IsAmong, IsConstraint}
 use Rattle.agent_core.specs.Strata.{Each}
 use Rattle.agent_core.proofs.Standing.{stands-head}
@@ -70,7 +70,7 @@ AreBelow n xs = Each (λ (k : ℕ). k < n) xs
 pub record Aim (x : Trail) : Type 0 where
   pub number : ℕ
   pub body : Tree
-  pub stop : Ask
+  pub stop : Constraint
   pub form : ℕ
   pub stems : StemsFrom x.surface x.sketch x.leaf form
   pub inside : IsBelow number (Watch body stop) form
@@ -130,7 +130,7 @@ module _ (x : Trail) (y : Aim x) where
     | inr h ↦ h
   ]
 
-  here : (b : Tree) (d : Ask) (n : ℕ) → part n (Watch b d) ≡ sought → Finds (Watch b d) n
+  here : (b : Tree) (d : Constraint) (n : ℕ) → part n (Watch b d) ≡ sought → Finds (Watch b d) n
   here b d n e locals r h scoped seen below =
       let number : n ≡ y.number = ap (λ (w : Part). w.number) e in
       let tree : Watch b d ≡ Watch y.body y.stop = ap (λ (w : Part). w.tree) e in
@@ -139,7 +139,7 @@ module _ (x : Trail) (y : Aim x) where
       record {
         spot = r;
         at = subst (λ (k : ℕ). At x r (watching (cells + k) y.stop (sketch_of cells (suc k) y.body))) number
-            (subst (λ (t : Tree). At x r (watching (cells + n) y.stop (sketch_of cells (suc n) t))) body (subst (λ (c : Ask). At x r (watching (cells + n) c (sketch_of cells (suc n) b))) stop h));
+            (subst (λ (t : Tree). At x r (watching (cells + n) y.stop (sketch_of cells (suc n) t))) body (subst (λ (c : Constraint). At x r (watching (cells + n) c (sketch_of cells (suc n) b))) stop h));
         locals = locals;
         seen = seen;
         scoped = subst (IsConstraint (bare x.surface) locals) stop scoped.1;

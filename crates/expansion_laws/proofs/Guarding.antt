@@ -2,7 +2,7 @@
 use Rattle.std.proofs.Common.{◌≡◌, ℕ, suc, ◌+◌, List, [], ◌∷◌, Some, refl, arith}
 use Rattle.std.specs.Prelude.{Option, slice_get, Contains}
 use Rattle.std.proofs.lemmas.List.Elements.{Contains-append_left, Contains-push}
-use Rattle.agent_core.specs.Agents.{Ask}
+use Rattle.agent_core.specs.Agents.{Constraint}
 use Rattle.agent_core.specs.Leaves.{Guard, Denies}
 use Rattle.agent_core.specs.Facts.{IsAmong}
 use Rattle.tdcc_reader.specs.Trees.{Tree, Watch}
@@ -25,7 +25,7 @@ pub record IsGuarded (ms : List ℕ) (k : ℕ) (w : Way) : Type 0 where
 pub guarded_on : (ms : List ℕ) (k : ℕ) (w : Way) (g : Guard) → IsGuarded ms k w → IsGuarded ms k (below w g)
 guarded_on ms k w g h = record { cell = h.cell; marked = h.marked; around = h.around; denies = Contains-append_left w.path (g ∷ []) (Denies w.births (on h.cell)) h.denies }
 
-module _ (ms : List ℕ) (k : ℕ) (R : Option ℕ → Way → Ask → Type 0) (has : (o : Option ℕ) (w : Way) (c : Ask) → IsGuarded ms k w → R o w c) where
+module _ (ms : List ℕ) (k : ℕ) (R : Option ℕ → Way → Constraint → Type 0) (has : (o : Option ℕ) (w : Way) (c : Constraint) → IsGuarded ms k w → R o w c) where
   among : (w : Way) → Reads ms 0 w.scope k → IsGuarded ms k (denied w (on k))
   among w h = record { cell = cell_of w.scope k; marked = h.marked; around = among_of (cells_of w.scope) (cell_of w.scope k) h.known; denies = Contains-push w.path (Denies w.births (ask_of w.scope (on k))) }
 
@@ -40,14 +40,14 @@ module _ (ms : List ℕ) (k : ℕ) (R : Option ℕ → Way → Ask → Type 0) (
   guards_each (Hence o a) w h = λ v o. guards_each a v (o.wide 0 k h)
   guards_each (Next o a) w h = λ v o. guards_each a v (o.wide 0 k h)
 
-  watch_guards : (c : Ask) (a : Sketch) → Own ms R k → (w : Way) → IsEven w → EachTell ms R w (watching k c a)
+  watch_guards : (c : Constraint) (a : Sketch) → Own ms R k → (w : Way) → IsEven w → EachTell ms R w (watching k c a)
   watch_guards c a own w even cell t e =
       let under = born w k cell t in
       let first = reads_first ms 0 w.scope k cell k refl e in
       (watch_added ms R under k c own first under (opens_same ms under (even_born w k cell t even)), guards_each a under first)
 
 -- in the sketch of a tree each tell that stems from a form inside this watching is guarded
-pub tree_guards : (cells : ℕ) (ms : List ℕ) (tree : Tree) (m : ℕ) (a : Tree) (c : Ask) → Contains (parts 0 tree) (part m (Watch a c))
+pub tree_guards : (cells : ℕ) (ms : List ℕ) (tree : Tree) (m : ℕ) (a : Tree) (c : Constraint) → Contains (parts 0 tree) (part m (Watch a c))
     → EachTell ms (Has cells ms (IsBelow m (Watch a c)) (IsGuarded ms (cells + m))) (way [] [] []) (sketch_of cells 0 tree)
 tree_guards cells ms tree m a c k =
     let In = IsBelow m (Watch a c) in

@@ -8,7 +8,7 @@ use Rattle.std.proofs.lemmas.List.Folds.{list_all-append}
 use Rattle.std.proofs.lemmas.List.Elements.{Contains-append_cases, Contains-push}
 use Rattle.token_system.specs.Stores.{Valuation}
 use Rattle.agent_core.specs.declared.node.Closure.{Closure}
-use Rattle.agent_core.specs.Agents.{Agent, Ask, Skip, Tell, Then, Else, Par, New, Hence, Next, agent_at}
+use Rattle.agent_core.specs.Agents.{Agent, Constraint, Skip, Tell, Then, Else, Par, New, Hence, Next, agent_at}
 use Rattle.agent_core.specs.Programs.{CoreProgram}
 use Rattle.agent_core.specs.Listing.{size}
 use Rattle.agent_core.specs.Rests.{◌⇒◌, entails, agent_rests}
@@ -88,7 +88,7 @@ module _ (p : CoreProgram) (z : List Valuation) (v : Valuation) (l : Leaf) where
   abbrev pub Leaded : List Valuation → Agent → ℕ → List ℕ → ℕ → Type 0
   Leaded = Leads p z v l
 
-  pub leads_then : (y : List Valuation) (c : Ask) (a : Agent) (n : ℕ) (b : List ℕ) (s : ℕ) → Leaded y (Then c a) n b s → Leaded y a (suc n) b s
+  pub leads_then : (y : List Valuation) (c : Constraint) (a : Agent) (n : ℕ) (b : List ℕ) (s : ℕ) → Leaded y (Then c a) n b s → Leaded y a (suc n) b s
   leads_then [] c a n b s h = record {
     front = h.front;
     whole = h.whole;
@@ -110,11 +110,11 @@ module _ (p : CoreProgram) (z : List Valuation) (v : Valuation) (l : Leaf) where
         rests = λ r. by_premise (entails p b w c) (agent_obs p v v (w ∷ y) a b s) (h.rests r) t.0;
       }
 
-  leads_else-now : (c : Ask) (a : Agent) (n : ℕ) (b : List ℕ) (s : ℕ) (path : List Guard) → Contains (leaves_of s a (suc n) b (path ++ Denies b c ∷ [])) l
+  leads_else-now : (c : Constraint) (a : Agent) (n : ℕ) (b : List ℕ) (s : ℕ) (path : List Guard) → Contains (leaves_of s a (suc n) b (path ++ Denies b c ∷ [])) l
       → (IsTrue (runs p v l) → IsTrue (not (entails p b v c) ⇒ agent_rests p s v a b v)) → IsTrue (runs p v l) → IsTrue (agent_rests p s v a b v)
   leads_else-now c a n b s path k f r = by_premise (not (entails p b v c)) (agent_rests p s v a b v) (f r) (last_passed p l v a s (suc n) b path (Denies b c) k r)
 
-  pub leads_else : (y : List Valuation) (c : Ask) (a : Agent) (n : ℕ) (b : List ℕ) (s : ℕ) → Leaded y (Else c a) n b s → Leaded y a (suc n) b s
+  pub leads_else : (y : List Valuation) (c : Constraint) (a : Agent) (n : ℕ) (b : List ℕ) (s : ℕ) → Leaded y (Else c a) n b s → Leaded y a (suc n) b s
   leads_else [] c a n b s h = record {
     front = h.front;
     whole = h.whole;
@@ -155,7 +155,7 @@ module _ (p : CoreProgram) (z : List Valuation) (v : Valuation) (l : Leaf) where
       go (inr k) = inr (record { front = h.front; whole = h.whole; long = h.long; comes = k; rests = λ r. (both_observe p v y a a' b s (h.rests r)).1 })
 
   -- A tell is no leaf of the instant at which a hence or a next above it is started; so it comes of the body, started later.
-  module _ (told : Ask) (tells : l.agent ≡ Tell told) where
+  module _ (told : Constraint) (tells : l.agent ≡ Tell told) where
     pub leads_next : (y : List Valuation) (a : Agent) (n : ℕ) (b : List ℕ) (s : ℕ) → agent_at p.nodes (suc n) ≡ a → Leaded y (Next a) n b s → (x : List Valuation) × (t : ℕ) × Leaded x a (suc n) b t
     leads_next [] a n b s is h = absurd (let e : leaf n (Next a) b h.comes.0 ≡ l = only_in _ l h.comes.1 in let f : Next a ≡ Tell told = ap (λ (x : Leaf). x.agent) e ∙ tells in cc)
     leads_next (w ∷ y) a n b s is h =
@@ -198,12 +198,12 @@ module _ (p : CoreProgram) (z : List Valuation) (v : Valuation) (l : Leaf) where
     leads_skip (w ∷ y) n b s h = none_in _ h.comes.1
 
   -- a tell is a leaf of its own
-  pub leads_tell : (y : List Valuation) (c : Ask) (n : ℕ) (b : List ℕ) (s : ℕ) → Leaded y (Tell c) n b s → (l.node ≡ n) × (l.agent ≡ Tell c)
+  pub leads_tell : (y : List Valuation) (c : Constraint) (n : ℕ) (b : List ℕ) (s : ℕ) → Leaded y (Tell c) n b s → (l.node ≡ n) × (l.agent ≡ Tell c)
   leads_tell [] c n b s h = let e : leaf n (Tell c) b h.comes.0 ≡ l = only_in _ l h.comes.1 in (ap (λ (x : Leaf). x.node) (sym e), ap (λ (x : Leaf). x.agent) (sym e))
   leads_tell (w ∷ y) c n b s h = absurd (none_in _ h.comes.1)
 
   -- right below an else
-  pub leads_denied : (y : List Valuation) (q c : Ask) (n : ℕ) (b : List ℕ) (s : ℕ) → Leaded y (Else q (Tell c)) n b s → (l.births ≡ b) × Contains l.path (Denies b q)
+  pub leads_denied : (y : List Valuation) (q c : Constraint) (n : ℕ) (b : List ℕ) (s : ℕ) → Leaded y (Else q (Tell c)) n b s → (l.births ≡ b) × Contains l.path (Denies b q)
   leads_denied [] q c n b s h =
       let e : leaf (suc n) (Tell c) b (h.comes.0 ++ Denies b q ∷ []) ≡ l = only_in _ l h.comes.1 in (
         ap (λ (x : Leaf). x.births) (sym e),

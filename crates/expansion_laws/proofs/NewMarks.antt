@@ -1,6 +1,6 @@
 -- The marks of the news of a sketch: those of its tree's local cells, and of the hidden signals of its forms.
 use Rattle.std.proofs.Common.{◌≡◌, ℕ, suc, ◌+◌, ◌≤◌, List, [], ◌∷◌, ◌++◌, refl, ap, ◌∙◌, subst, sym, arith, None}
-use Rattle.agent_core.specs.Agents.{Ask}
+use Rattle.agent_core.specs.Agents.{Constraint}
 use Rattle.agent_core.specs.Strata.{Each}
 use Rattle.agent_laws.proofs.Eachs.{Each-append, Each-parts}
 use Rattle.tdcc_reader.specs.Trees as tree
@@ -24,10 +24,10 @@ module _ (P : ℕ → Type 0) where
   always_marks : (a : Sketch) → Each P (marks a) → Each P (marks (always a))
   always_marks a h = Each-append P (marks a) (marks a) h h
 
-  when_marks : (d : ℕ) (c : Ask) (a : Sketch) → P d → Each P (marks a) → Each P (marks (when d c a))
+  when_marks : (d : ℕ) (c : Constraint) (a : Sketch) → P d → Each P (marks a) → Each P (marks (when d c a))
   when_marks d c a own h = (own, always_marks (Then None c (Par None (Else None (on d) a) (Hence None (Tell None (on d))))) (Each-append P (marks a) [] h tt))
 
-  clocked_marks : (d : ℕ) (c : Ask) (a : Sketch) → P d → Each P (marks a) → Each P (marks (clocked d c a))
+  clocked_marks : (d : ℕ) (c : Constraint) (a : Sketch) → P d → Each P (marks a) → Each P (marks (clocked d c a))
   clocked_marks d c (Skip o) own h = tt
   clocked_marks d c (Tell o b) own h = tt
   clocked_marks d c (Then o b a) own h = clocked_marks d c a own h

@@ -2,7 +2,7 @@
 use Rattle.std.proofs.Common.{◌≡◌, ℕ, suc, ◌+◌, ◌<◌, ◌≤◌, List, [], ◌∷◌, length, Some, refl, sym, ap, subst, arith, length-append, inl, inr}
 use Rattle.std.specs.Prelude.{Option, slice_get}
 use Rattle.agent_core.specs.declared.node.Node.TheVariants as nodes
-use Rattle.agent_core.specs.Agents.{Agent, Ask, agent_at}
+use Rattle.agent_core.specs.Agents.{Agent, Constraint, agent_at}
 use Rattle.agent_core.specs.Agents as agent
 use Rattle.agent_core.specs.Programs.{CoreProgram}
 use Rattle.agent_core.specs.Listing as core
@@ -78,10 +78,10 @@ module _ (p : CoreProgram) (os : List (Option ℕ)) (ms : List ℕ) where
     over = narrower p k (suc k) (core.size (agent_of scope n d)) (core.size (agent_of scope n a)) (omega arith) (omega arith) (cells_of scope) h.over;
   }
 
-  pub then_part : (scope : List Placed) (k n : ℕ) (o : Option ℕ) (c : Ask) (a : Sketch) → IsPart scope k n (Then o c a) → IsPart scope (suc k) n a
+  pub then_part : (scope : List Placed) (k n : ℕ) (o : Option ℕ) (c : Constraint) (a : Sketch) → IsPart scope k n (Then o c a) → IsPart scope (suc k) n a
   then_part scope k n o c a h = one_part scope k n (Then o c a) a o ((Place-goes_down p.nodes).then_body k (cells_of scope) (ask_of scope c) (agent_of scope n a) h.place) refl refl refl h
 
-  pub else_part : (scope : List Placed) (k n : ℕ) (o : Option ℕ) (c : Ask) (a : Sketch) → IsPart scope k n (Else o c a) → IsPart scope (suc k) n a
+  pub else_part : (scope : List Placed) (k n : ℕ) (o : Option ℕ) (c : Constraint) (a : Sketch) → IsPart scope k n (Else o c a) → IsPart scope (suc k) n a
   else_part scope k n o c a h = one_part scope k n (Else o c a) a o ((Place-goes_down p.nodes).else_body k (cells_of scope) (ask_of scope c) (agent_of scope n a) h.place) refl refl refl h
 
   pub hence_part : (scope : List Placed) (k n : ℕ) (o : Option ℕ) (a : Sketch) → IsPart scope k n (Hence o a) → IsPart scope (suc k) n a

@@ -8,7 +8,7 @@ use Rattle.token_system.specs.declared.cell.Cell.{Cell}
 use Rattle.token_system.specs.declared.cell.Token.{Token}
 use Rattle.token_system.specs.declared.cell.Token.TheVariants.{On}
 use Rattle.agent_core.specs.declared.node.CellDecl.{CellDecl}
-use Rattle.agent_core.specs.Agents.{Ask}
+use Rattle.agent_core.specs.Agents.{Constraint}
 use Rattle.agent_core.specs.Facts.{IsAmong}
 use Rattle.agent_core.specs.Strata.{Each}
 use Rattle.agent_laws.proofs.Eachs.{Each-map}
@@ -26,7 +26,7 @@ pub record Means (cells : List CellDecl) (declared : ℕ) (around : List ℕ) (p
   pub visible : (pair.0 < declared) ⊎ IsAmong around pair.0
   pub fits : Fits (like cells pair.0) pair.1
 
-pub record IsMeant (cells : List CellDecl) (declared : ℕ) (around : List ℕ) (ask : Ask) : Type 0 where
+pub record IsMeant (cells : List CellDecl) (declared : ℕ) (around : List ℕ) (ask : Constraint) : Type 0 where
   pub some : 1 ≤ length ask
   pub few : length ask ≤ 16
   pub tokens : Each (Means cells declared around) ask
@@ -86,7 +86,7 @@ module _ (cells : List CellDecl) (declared : ℕ) where
 
   -- IN MORE NEWS
 
-  pub meant_in : (xs ys : List ℕ) (c : Ask) → AreIn xs ys → IsMeant cells declared xs c → IsMeant cells declared ys c
+  pub meant_in : (xs ys : List ℕ) (c : Constraint) → AreIn xs ys → IsMeant cells declared xs c → IsMeant cells declared ys c
   meant_in xs ys c are h = record { some = h.some; few = h.few; tokens = Each-map (Means cells declared xs) (Means cells declared ys) (λ pair p. record { visible = seen pair.0 p.visible; fits = p.fits }) c h.tokens }
     where
       seen : (m : ℕ) → (m < declared) ⊎ IsAmong xs m → (m < declared) ⊎ IsAmong ys m

@@ -9,7 +9,7 @@ use Rattle.token_system.specs.declared.cell.Cell.{Cell}
 use Rattle.token_system.specs.declared.cell.Token.{Token}
 use Rattle.program_lexemes.specs.declared.bytes.TextForm.TheVariants.{Program}
 use Rattle.agent_core.specs.declared.node.CellDecl.{CellDecl}
-use Rattle.agent_core.specs.Agents.{Ask}
+use Rattle.agent_core.specs.Agents.{Constraint}
 use Rattle.agent_core.specs.Programs.{CoreProgram}
 use Rattle.agent_core.specs.Facts.{IsAmong, IsInScope, AreInScope, IsConstraint, Scoped}
 use Rattle.agent_core.specs.Strata.{Each}
@@ -107,11 +107,11 @@ module _ (cells : List CellDecl) (p : CoreProgram) (over : IsOver cells p) where
       }
   token_scoped n (q ∷ scope) mark t h seen fits = placed_scoped scope q mark t h.0.is fits (nat_eq q.mark mark) refl (λ rest. token_scoped n scope mark t h.1 rest fits) seen
 
-  ask_scoped : (n : ℕ) (scope : List Placed) (c : Ask) → Copies n scope → Each (Means cells p.declared (marks_of scope)) c → AreInScope p (cells_of scope) (ask_of scope c)
+  ask_scoped : (n : ℕ) (scope : List Placed) (c : Constraint) → Copies n scope → Each (Means cells p.declared (marks_of scope)) c → AreInScope p (cells_of scope) (ask_of scope c)
   ask_scoped n scope [] h are = tt
   ask_scoped n scope (pair ∷ c) h are = (token_scoped n scope pair.0 pair.1 h are.0.visible are.0.fits, ask_scoped n scope c h are.1)
 
-  constraint_scoped : (n : ℕ) (scope : List Placed) (c : Ask) → Copies n scope → IsMeant cells p.declared (marks_of scope) c → IsConstraint p (cells_of scope) (ask_of scope c)
+  constraint_scoped : (n : ℕ) (scope : List Placed) (c : Constraint) → Copies n scope → IsMeant cells p.declared (marks_of scope) c → IsConstraint p (cells_of scope) (ask_of scope c)
   constraint_scoped n scope c h is =
       let long : length (ask_of scope c) ≡ length c = length-map c (λ (pair : ℕ × Token). (cell_of scope pair.0, pair.1)) in
       let some = is.some in

@@ -4,7 +4,7 @@ use Rattle.std.specs.Prelude.{unwrap_or}
 use Rattle.token_system.specs.Tokens.{Fits}
 use Rattle.token_system.specs.declared.cell.Token.{Token}
 use Rattle.agent_core.specs.declared.node.CellDecl.{CellDecl}
-use Rattle.agent_core.specs.Agents.{Ask}
+use Rattle.agent_core.specs.Agents.{Constraint}
 use Rattle.agent_core.specs.Facts.{IsAmong, IsInScope, AreInScope, IsConstraint}
 use Rattle.agent_core.specs.Strata.{Each}
 use Rattle.tdcc_reader.specs.Surfaces.{SurfaceProgram}
@@ -24,13 +24,13 @@ module _ (cells : List CellDecl) (declared : ℕ) where
   Is = Sound cells declared
 
   -- the constraint of a form stands for the same under a new in the form's body
-  under : (mark : ℕ) (xs : List ℕ) (c : Ask) → IsMeant cells declared xs c → IsMeant cells declared (mark ∷ xs) c
+  under : (mark : ℕ) (xs : List ℕ) (c : Constraint) → IsMeant cells declared xs c → IsMeant cells declared (mark ∷ xs) c
   under mark xs c h = meant_in cells declared xs (mark ∷ xs) c (in_more mark xs) h
 
   own : (d : ℕ) (xs : List ℕ) → length cells ≤ d → IsMeant cells declared (d ∷ xs) (on d)
   own d xs past = on_meant cells declared d (d ∷ xs) past (inl refl)
 
-  when_sound : (d : ℕ) (c : Ask) (xs : List ℕ) (a : Sketch) → length cells ≤ d → IsMeant cells declared xs c → Is xs a → Is xs (when d c a)
+  when_sound : (d : ℕ) (c : Constraint) (xs : List ℕ) (a : Sketch) → length cells ≤ d → IsMeant cells declared xs c → Is xs a → Is xs (when d c a)
   when_sound d c xs a past clock h =
       let inside : Is (d ∷ xs) a = sound_wider cells declared xs (d ∷ xs) a (widens_hidden cells declared d xs past) h in
       let started : Is (d ∷ xs) (Then None c (Par None (Else None (on d) a) (Hence None (Tell None (on d))))) = (under d xs c clock, ((own d xs past, inside), own d xs past)) in
@@ -46,13 +46,13 @@ module _ (cells : List CellDecl) (declared : ℕ) where
   guarded_sound k xs (Hence o a) guard h = guarded_sound k xs a guard h
   guarded_sound k xs (Next o a) guard h = guarded_sound k xs a guard h
 
-  watching_sound : (k : ℕ) (c : Ask) (xs : List ℕ) (a : Sketch) → length cells ≤ k → IsMeant cells declared xs c → Is xs a → Is xs (watching k c a)
+  watching_sound : (k : ℕ) (c : Constraint) (xs : List ℕ) (a : Sketch) → length cells ≤ k → IsMeant cells declared xs c → Is xs a → Is xs (watching k c a)
   watching_sound k c xs a past stop h =
       let inside : Is (k ∷ xs) a = sound_wider cells declared xs (k ∷ xs) a (widens_hidden cells declared k xs past) h in
       let stopped : Is (k ∷ xs) (Then None c (Par None (Tell None (on k)) (Hence None (Tell None (on k))))) = (under k xs c stop, (own k xs past, own k xs past)) in
       (hidden_new cells declared k xs past, ((stopped, stopped), guarded_sound k (k ∷ xs) a (own k xs past) inside))
 
-  clocked_sound : (d : ℕ) (c : Ask) (xs : List ℕ) (a : Sketch) → length cells ≤ d → IsMeant cells declared xs c → Is xs a → Is xs (clocked d c a)
+  clocked_sound : (d : ℕ) (c : Constraint) (xs : List ℕ) (a : Sketch) → length cells ≤ d → IsMeant cells declared xs c → Is xs a → Is xs (clocked d c a)
   clocked_sound d c xs (Skip o) past clock h = tt
   clocked_sound d c xs (Tell o b) past clock h = h
   clocked_sound d c xs (Then o b a) past clock h = (h.0, clocked_sound d c xs a past clock h.1)
@@ -66,7 +66,7 @@ module _ (cells : List CellDecl) (declared : ℕ) where
 
 module _ (s : SurfaceProgram) where
   -- a constraint of the surface, where these marks stand for its local cells
-  constraint_meant : (locals around : List ℕ) (c : Ask) → AreIn locals around → IsConstraint (bare s) locals c → IsMeant s.cells s.declared around c
+  constraint_meant : (locals around : List ℕ) (c : Constraint) → AreIn locals around → IsConstraint (bare s) locals c → IsMeant s.cells s.declared around c
   constraint_meant locals around c are h = record { some = h.some; few = h.few; tokens = tokens c h.tokens }
     where
       seen : (m : ℕ) → (m < s.declared) ⊎ IsAmong locals m → (m < s.declared) ⊎ IsAmong around m
@@ -79,7 +79,7 @@ module _ (s : SurfaceProgram) where
         fits = subst (λ (o : Option CellDecl). Fits (unwrap_or o (hidden 0)).cell pair.1) (sym is.found) is.fits;
       }
 
-      tokens : (b : Ask) → AreInScope (bare s) locals b → Each (Means s.cells s.declared around) b
+      tokens : (b : Constraint) → AreInScope (bare s) locals b → Each (Means s.cells s.declared around) b
       tokens [] are = tt
       tokens (pair ∷ b) are = (meant pair are.0, tokens b are.1)
 

@@ -2,7 +2,7 @@
 use Rattle.std.proofs.Common.{◌≡◌, ◌⊎◌, inl, inr, ℕ, suc, ◌+◌, List, [], ◌∷◌, ◌++◌, length, length-append, Some, None, refl, sym, ap, ◌∙◌, subst, arith}
 use Rattle.std.specs.Prelude.{Option, slice_get}
 use Rattle.token_system.specs.Stores.{Valuation}
-use Rattle.agent_core.specs.Agents.{Ask, agent_at}
+use Rattle.agent_core.specs.Agents.{Constraint, agent_at}
 use Rattle.agent_core.specs.Agents as agent
 use Rattle.agent_core.specs.Programs.{CoreProgram}
 use Rattle.agent_core.specs.Listing as core
@@ -29,7 +29,7 @@ pub record Trail : Type 0 where
   pub closed : List Valuation
   pub output : Valuation
   pub leaf : Leaf
-  pub told : Ask
+  pub told : Constraint
   pub tells : leaf.agent ≡ agent.Tell told
 
 -- the news around a part, its first node and its first cell, the births under which it was started, the instant, and the closed
@@ -72,14 +72,14 @@ module _ (x : Trail) where
     pub leads : Leads x.program x.closed x.output x.leaf q.stores (agent_of q.scope q.cell e) q.node q.births q.start
     pub even : length q.births ≡ length q.scope
 
-  pub at_then : (q : Spot) (o : Option ℕ) (c : Ask) (a : Sketch) → At q (Then o c a) → At (under q) a
+  pub at_then : (q : Spot) (o : Option ℕ) (c : Constraint) (a : Sketch) → At q (Then o c a) → At (under q) a
   at_then q o c a h = record {
     part = then_part x.program (origins x.sketch) (marks_of x) q.scope q.node q.cell o c a h.part;
     leads = leads_then x.program x.closed x.output x.leaf q.stores (ask_of q.scope c) (agent_of q.scope q.cell a) q.node q.births q.start h.leads;
     even = h.even;
   }
 
-  pub at_else : (q : Spot) (o : Option ℕ) (c : Ask) (a : Sketch) → At q (Else o c a) → At (under q) a
+  pub at_else : (q : Spot) (o : Option ℕ) (c : Constraint) (a : Sketch) → At q (Else o c a) → At (under q) a
   at_else q o c a h = record {
     part = else_part x.program (origins x.sketch) (marks_of x) q.scope q.node q.cell o c a h.part;
     leads = leads_else x.program x.closed x.output x.leaf q.stores (ask_of q.scope c) (agent_of q.scope q.cell a) q.node q.births q.start h.leads;
@@ -145,7 +145,7 @@ module _ (x : Trail) where
         not_at a (later q r.0 r.1) [] r.2 (each (way q.scope q.births []) (record { wide = λ floor mark reads. reads; even = h.even }))
 
     -- the body of a when that is none of the forms
-    pub at_when : (q : Spot) (n : ℕ) (c : Ask) (a : Sketch) → (In n → ⊥) → At q (when (length x.surface.cells + n) c a) → (r : Spot) × At r a × (r.scope ≡ placed (length x.surface.cells + n) q.cell ∷ q.scope)
+    pub at_when : (q : Spot) (n : ℕ) (c : Constraint) (a : Sketch) → (In n → ⊥) → At q (when (length x.surface.cells + n) c a) → (r : Spot) × At r a × (r.scope ≡ placed (length x.surface.cells + n) q.cell ∷ q.scope)
     at_when q n c a out h =
         let d : ℕ = length x.surface.cells + n in
         let inner : Sketch = Then None c (Par None (Else None (on d) a) (Hence None (Tell None (on d)))) in

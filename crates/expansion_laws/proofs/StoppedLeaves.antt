@@ -12,7 +12,7 @@ use Rattle.token_system.specs.Stores.{Valuation, store_entails}
 use Rattle.token_system.proofs.Alike.{true_false}
 use Rattle.agent_core.specs.declared.node.CellDecl.{CellDecl}
 use Rattle.agent_core.specs.declared.node.Node.TheVariants as nodes
-use Rattle.agent_core.specs.Agents.{Ask}
+use Rattle.agent_core.specs.Agents.{Constraint}
 use Rattle.agent_core.specs.Agents as agent
 use Rattle.agent_core.specs.Programs.{CoreProgram}
 use Rattle.agent_core.specs.Names.{depth_of, new_of, local_name, name_of}
@@ -55,12 +55,12 @@ module _ (p : CoreProgram) (b b' : List ℕ) (w : Valuation) where
       go None = refl
       go (Some d) = ap (λ (name : CellName). store_entails w name d.cell t) e
 
-  pub entails_alike : (ask : Ask) → Each (λ (pair : ℕ × Token). name_of p b pair.0 ≡ name_of p b' pair.0) ask → entails p b w ask ≡ entails p b' w ask
+  pub entails_alike : (ask : Constraint) → Each (λ (pair : ℕ × Token). name_of p b pair.0 ≡ name_of p b' pair.0) ask → entails p b w ask ≡ entails p b' w ask
   entails_alike [] h = refl
   entails_alike (pair ∷ ask) h = ap (λ (x : Bool). x && entails p b w ask) (holds_alike pair.0 pair.1 h.0) ∙ ap (λ (x : Bool). holds p b' w pair && x) (entails_alike ask h.1)
 
 -- no leaf is run while what it waits for is there
-pub not_run : (p : CoreProgram) (v : Valuation) (l : Leaf) (b : List ℕ) (ask : Ask) → Contains l.path (Denies b ask) → (IsTrue (runs p v l) → IsTrue (entails p b v ask)) → IsFalse (runs p v l)
+pub not_run : (p : CoreProgram) (v : Valuation) (l : Leaf) (b : List ℕ) (ask : Constraint) → Contains l.path (Denies b ask) → (IsTrue (runs p v l) → IsTrue (entails p b v ask)) → IsFalse (runs p v l)
 not_run p v l b ask k h = go (runs p v l) refl
   where
     go : (r : Bool) → runs p v l ≡ r → r ≡ false
@@ -68,19 +68,19 @@ not_run p v l b ask k h = go (runs p v l) refl
     go true e = absurd (true_false (sym (all_in (allows p v) (Denies b ask) l.path e k) ∙ ap not (h e)))
 
 -- a new of another mark changes nothing for a constraint
-pub ask_under : (k n : ℕ) (scope : List Placed) (c : Ask) → Each (λ (pair : ℕ × Token). pair.0 < k) c → ask_of (placed k n ∷ scope) c ≡ ask_of scope c
+pub ask_under : (k n : ℕ) (scope : List Placed) (c : Constraint) → Each (λ (pair : ℕ × Token). pair.0 < k) c → ask_of (placed k n ∷ scope) c ≡ ask_of scope c
 ask_under k n scope [] h = refl
 ask_under k n scope (pair ∷ c) h =
     let lt = h.0 in
     ap (λ (b : Bool). (if b then n else cell_of scope pair.0, pair.1) ∷ ask_of (placed k n ∷ scope) c) (ne_eqb k pair.0 (λ e. omega arith))
-    ∙ ap (λ (ask : Ask). (cell_of scope pair.0, pair.1) ∷ ask) (ask_under k n scope c h.1)
+    ∙ ap (λ (ask : Constraint). (cell_of scope pair.0, pair.1) ∷ ask) (ask_under k n scope c h.1)
 
 -- a declared cell has its own mark
 pub own_mark : (s : SurfaceProgram) (d : Sketch) (k : ℕ) → k < s.declared → slice_get (cell_marks s d) k ≡ Some k
 own_mark s d k lt = counted 0 s.declared k (marks d) lt ∙ ap Some (omega arith)
 
 -- what is in scope is a cell of the program
-pub cells_below : (q : CoreProgram) (k : ℕ) (locals : List ℕ) → length q.cells ≤ k → (c : Ask) → AreInScope q locals c → Each (λ (pair : ℕ × Token). pair.0 < k) c
+pub cells_below : (q : CoreProgram) (k : ℕ) (locals : List ℕ) → length q.cells ≤ k → (c : Constraint) → AreInScope q locals c → Each (λ (pair : ℕ × Token). pair.0 < k) c
 cells_below q k locals le [] h = tt
 cells_below q k locals le (pair ∷ c) h = let lt = slice_get_within q.cells pair.0 h.0.decl h.0.found in (omega arith, cells_below q k locals le c h.1)
 
@@ -99,7 +99,7 @@ module _ (x : Trail) (y : Aim x) (f : Found x y) where
   abbrev births : List ℕ
   births = f.spot.births ++ f.spot.start ∷ []
 
-  abbrev pub ask : Ask
+  abbrev pub ask : Constraint
   ask = ask_of scope y.stop
 
   -- the part of the watching's own
@@ -200,7 +200,7 @@ module _ (x : Trail) (y : Aim x) (f : Found x y) where
     read_alike : (w : Valuation) → entails x.program f.spot.births w ask ≡ entails x.program births w ask
     read_alike w =
         let same_ask : ask ≡ ask_of f.spot.scope y.stop = ask_under mark hidden f.spot.scope y.stop (cells_below (bare x.surface) mark f.locals (omega arith) y.stop f.scoped.tokens) in
-        subst (λ (k : Ask). entails x.program f.spot.births w k ≡ entails x.program births w k) (sym same_ask)
+        subst (λ (k : Constraint). entails x.program f.spot.births w k ≡ entails x.program births w k) (sym same_ask)
         (entails_alike x.program f.spot.births births w (ask_of f.spot.scope y.stop)
         (Each-map (λ (pair : ℕ × Token). (pair.0 < x.surface.declared) ⊎ IsAmong (cells_of f.spot.scope) pair.0) (λ (pair : ℕ × Token). name_of x.program f.spot.births pair.0 ≡ name_of x.program births pair.0)
         (λ pair h. name_same x.program program f.spot.node _ (cells_of f.spot.scope) f.spot.births (f.spot.start ∷ []) f.at.part.over (f.at.even ∙ sym (length-map f.spot.scope (λ (q : Placed). q.cell))) pair.0 (visible pair.0 h))

@@ -2,7 +2,7 @@
 use Rattle.std.proofs.Common.{◌≡◌, ℕ, zero, suc, ◌+◌, ◌-◌, true, List, [], ◌∷◌, ◌++◌, length, Some, sym, subst}
 use Rattle.std.specs.Prelude.{Contains, IsTrue, slice_get}
 use Rattle.token_system.specs.Stores.{Valuation}
-use Rattle.agent_core.specs.Agents.{Agent, Ask, Tell, Then, Par, Hence}
+use Rattle.agent_core.specs.Agents.{Agent, Constraint, Tell, Then, Par, Hence}
 use Rattle.agent_core.specs.Programs.{CoreProgram}
 use Rattle.agent_core.specs.Rests.{◌⇒◌, entails, agent_rests}
 use Rattle.agent_core.specs.Observed.{suffixes, agent_obs}
@@ -11,7 +11,7 @@ use Rattle.expansion_laws.proofs.Members.{first_in, later_in, all_in}
 use Rattle.expansion_laws.proofs.Leading.{both_observe}
 
 -- once c is entailed q is told, at this instant and at every later one
-abbrev pub once : Ask → Ask → Agent
+abbrev pub once : Constraint → Constraint → Agent
 once c q = Then c (Par (Tell q) (Hence (Tell q)))
 
 empty_suffix : (y : List Valuation) → Contains (suffixes y) []
@@ -25,7 +25,7 @@ suffix_at [] v (suc j) w e = absurd (cc)
 suffix_at (u ∷ y) v zero w e = (u ∷ y, first_in (u ∷ y) (suffixes y), e)
 suffix_at (u ∷ y) v (suc j) w e = let r = suffix_at y v j w e in (r.0, later_in (u ∷ y) r.0 (suffixes y) r.1, r.2)
 
-module _ (p : CoreProgram) (v : Valuation) (c q : Ask) (b : List ℕ) where
+module _ (p : CoreProgram) (v : Valuation) (c q : Constraint) (b : List ℕ) where
   -- it was started when the store entailed c
   begun : (x : List Valuation) (s : ℕ) (w : Valuation) → IsTrue (agent_obs p v v x (once c q) b s) → slice_get (x ++ v ∷ []) 0 ≡ Some w → IsTrue (entails p b w c) → IsTrue (entails p b v q)
   begun [] s w h e t =

@@ -4,7 +4,7 @@ use Rattle.std.specs.Prelude.{Option, slice_get, Contains}
 use Rattle.std.proofs.lemmas.List.Elements.{All-contains}
 use Rattle.token_system.specs.Stores.{Valuation}
 use Rattle.agent_core.specs.declared.node.Closure.{Closure}
-use Rattle.agent_core.specs.Agents.{Agent, Ask, agent_at}
+use Rattle.agent_core.specs.Agents.{Agent, Constraint, agent_at}
 use Rattle.agent_core.specs.Agents as agent
 use Rattle.agent_core.specs.Programs.{CoreProgram}
 use Rattle.agent_core.specs.Listing as core
@@ -22,19 +22,19 @@ use Rattle.expansion_laws.specs.Numbering.{Placed, placed, agent_of, ask_of}
 use Rattle.expansion_laws.proofs.Walks.{Way, way, cells_of, even_born, EachTell}
 use Rattle.expansion_laws.proofs.Numbered.{AreOver, IsNumbered, then_part, else_part, hence_part, next_part, left_part, right_part, new_part, root_part}
 
-module _ (p : CoreProgram) (os : List (Option ℕ)) (ms : List ℕ) (R : Option ℕ → Way → Ask → Type 0) where
+module _ (p : CoreProgram) (os : List (Option ℕ)) (ms : List ℕ) (R : Option ℕ → Way → Constraint → Type 0) where
   -- the leaf stands at a tell of the sketch, with these news around it, and what is shown of the tell holds there
-  pub record StandsAtTell (l : Leaf) (told : Ask) : Type 0 where
+  pub record StandsAtTell (l : Leaf) (told : Constraint) : Type 0 where
     pub origin : Option ℕ
     pub found : slice_get os l.node ≡ Some origin
     pub scope : List Placed
     pub over : AreOver p l.node 1 (cells_of scope)
-    pub ask : Ask
+    pub ask : Constraint
     pub tells : told ≡ ask_of scope ask
     pub holds : R origin (way scope l.births l.path) ask
 
   abbrev pub IsTold : Leaf → Type 0
-  IsTold l = (c : Ask) → l.agent ≡ agent.Tell c → StandsAtTell l c
+  IsTold l = (c : Constraint) → l.agent ≡ agent.Tell c → StandsAtTell l c
 
   pub leaves_told : (d : Sketch) (scope : List Placed) (k n : ℕ) (b : List ℕ) (path : List Guard) (t : ℕ) → IsNumbered p os ms scope k n d → EachTell ms R (way scope b path) d
       → Each IsTold (leaves_of t (agent_of scope n d) k b path)
@@ -91,7 +91,7 @@ module _ (p : CoreProgram) (os : List (Option ℕ)) (ms : List ℕ) (R : Option 
   roots_told (r ∷ rs) t h = Each-append IsTold (leaves_of t (agent_at p.nodes r.node) r.node r.births []) (leaves p rs t) (h.0 t) (roots_told rs t h.1)
 
 -- what is shown of the tells of a sketch holds of the tell leaves of its program, after whatever closed stores
-pub sketch_told : (p : CoreProgram) (ms : List ℕ) (n : ℕ) (d : Sketch) (R : Option ℕ → Way → Ask → Type 0)
+pub sketch_told : (p : CoreProgram) (ms : List ℕ) (n : ℕ) (d : Sketch) (R : Option ℕ → Way → Constraint → Type 0)
     → p.nodes ≡ core.listing 0 (agent_of [] n d) → StandsAt ℕ ms n (marks d) → EachTell ms R (way [] [] []) d
     → (z : List Valuation) (t : ℕ) (l : Leaf) → Contains (leaves p (roots p z) t) l → IsTold p (origins d) ms R l
 sketch_told p ms n d R listed marked h z t l k =

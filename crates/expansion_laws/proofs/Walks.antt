@@ -4,7 +4,7 @@ use Rattle.std.proofs.Common.{◌≡◌, ℕ, ◌<◌, Bool, true, false, List, 
 use Rattle.std.specs.Prelude.{Option, slice_get, nat_eq, if◌then◌else◌}
 use Rattle.std.proofs.lemmas.Bool.{eqb-true, eq-eqb}
 use Rattle.token_system.specs.declared.cell.Token.{Token}
-use Rattle.agent_core.specs.Agents.{Ask}
+use Rattle.agent_core.specs.Agents.{Constraint}
 use Rattle.agent_core.specs.Leaves.{Guard, Asks, Denies}
 use Rattle.agent_core.specs.Facts.{IsAmong}
 use Rattle.agent_core.specs.Strata.{Each}
@@ -27,10 +27,10 @@ way scope births path = record { scope = scope; births = births; path = path }
 abbrev pub below : Way → Guard → Way
 below w g = way w.scope w.births (w.path ++ g ∷ [])
 
-abbrev pub asked : Way → Ask → Way
+abbrev pub asked : Way → Constraint → Way
 asked w c = below w (Asks w.births (ask_of w.scope c))
 
-abbrev pub denied : Way → Ask → Way
+abbrev pub denied : Way → Constraint → Way
 denied w c = below w (Denies w.births (ask_of w.scope c))
 
 -- below a new whose cell has this mark and this number, and that was started at t
@@ -47,7 +47,7 @@ abbrev pub IsKnown : ℕ → List ℕ → ℕ → Type 0
 IsKnown floor cells cell = (cell < floor) ⊎ IsAmong cells cell
 
 -- each cell of the constraint is
-abbrev pub AreKnown : ℕ → List ℕ → Ask → Type 0
+abbrev pub AreKnown : ℕ → List ℕ → Constraint → Type 0
 AreKnown floor cells ask = Each (λ (pair : ℕ × Token). IsKnown floor cells pair.0) ask
 
 -- in this scope the mark stands for a cell that has it, and that is below the floor or has its new around
@@ -120,7 +120,7 @@ module _ (ms : List ℕ) where
 
 -- TELLS
 
-module _ (ms : List ℕ) (R : Option ℕ → Way → Ask → Type 0) where
+module _ (ms : List ℕ) (R : Option ℕ → Way → Constraint → Type 0) where
   -- R holds of each tell under this way, by its origin, the way to it and its constraint
   abbrev pub EachTell : Way → Sketch → Type 0
   EachTell w (Skip o) = Unit {0}
@@ -143,7 +143,7 @@ module _ (ms : List ℕ) (R : Option ℕ → Way → Ask → Type 0) where
   pub always_kept : (w : Way) (a : Sketch) → Ever w a → Ever w (always a)
   always_kept w a h v o = (h v o, λ u q. h u (opens_on ms w v u o q))
 
-  pub when_kept : (w : Way) (d : ℕ) (c : Ask) (a : Sketch) → Own d → Ever w a → Ever w (when d c a)
+  pub when_kept : (w : Way) (d : ℕ) (c : Constraint) (a : Sketch) → Own d → Ever w a → Ever w (when d c a)
   when_kept w d c a own h v o cell t e = always_kept under inner ever under (opens_same ms under (even_born v d cell t o.even))
     where
       under : Way
@@ -161,13 +161,13 @@ module _ (ms : List ℕ) (R : Option ℕ → Way → Ask → Type 0) where
           )
 
   -- the tells of a watching's own
-  pub watch_added : (w : Way) (k : ℕ) (c : Ask) → Own k → Reads ms 0 w.scope k → Ever w (always (Then None c (Par None (Tell None (on k)) (Hence None (Tell None (on k))))))
+  pub watch_added : (w : Way) (k : ℕ) (c : Constraint) → Own k → Reads ms 0 w.scope k → Ever w (always (Then None c (Par None (Tell None (on k)) (Hence None (Tell None (on k))))))
   watch_added w k c own first = always_kept w inner (λ v o. (own (asked v c) (o.wide 0 k first), λ u q. own u (q.wide 0 k (o.wide 0 k first))))
     where
       inner : Sketch
       inner = Then None c (Par None (Tell None (on k)) (Hence None (Tell None (on k))))
 
-  pub clocked_kept : (d : ℕ) (c : Ask) → Own d → (w : Way) (a : Sketch) → EachTell w a → EachTell w (clocked d c a)
+  pub clocked_kept : (d : ℕ) (c : Constraint) → Own d → (w : Way) (a : Sketch) → EachTell w a → EachTell w (clocked d c a)
   clocked_kept d c own w (Skip o) h = tt
   clocked_kept d c own w (Tell o b) h = h
   clocked_kept d c own w (Then o b a) h = clocked_kept d c own (asked w b) a h
@@ -177,11 +177,11 @@ module _ (ms : List ℕ) (R : Option ℕ → Way → Ask → Type 0) where
   clocked_kept d c own w (Hence o a) h = λ v q. clocked_kept d c own (asked v c) a (h (asked v c) (opens_path ms w v (asked v c).path q))
   clocked_kept d c own w (Next o a) h = when_kept w d c (clocked d c a) own (λ v q. clocked_kept d c own v a (h v q))
 
-  pub timed_kept : (w : Way) (d : ℕ) (c : Ask) (a : Sketch) → Own d → Ever w a → Ever w (timed d c a)
+  pub timed_kept : (w : Way) (d : ℕ) (c : Constraint) (a : Sketch) → Own d → Ever w a → Ever w (timed d c a)
   timed_kept w d c a own h = when_kept w d c (clocked d c a) own (λ v o. clocked_kept d c own v a (h v o))
 
   -- where R holds below one more guard
-  module _ (push : (o : Option ℕ) (w : Way) (c : Ask) (g : Guard) → R o w c → R o (below w g) c) where
+  module _ (push : (o : Option ℕ) (w : Way) (c : Constraint) (g : Guard) → R o w c → R o (below w g) c) where
     pub guarded_kept : (k : ℕ) (w : Way) (a : Sketch) → EachTell w a → EachTell w (guarded k a)
     guarded_kept k w (Skip o) h = tt
     guarded_kept k w (Tell o c) h = push o w c (Denies w.births (ask_of w.scope (on k))) h
@@ -192,7 +192,7 @@ module _ (ms : List ℕ) (R : Option ℕ → Way → Ask → Type 0) where
     guarded_kept k w (Hence o a) h = λ v o. guarded_kept k v a (h v o)
     guarded_kept k w (Next o a) h = λ v o. guarded_kept k v a (h v o)
 
-    pub watching_kept : (w : Way) (k : ℕ) (c : Ask) (a : Sketch) → Own k → Ever w a → Ever w (watching k c a)
+    pub watching_kept : (w : Way) (k : ℕ) (c : Constraint) (a : Sketch) → Own k → Ever w a → Ever w (watching k c a)
     watching_kept w k c a own h v o cell t e =
         let under = born v k cell t in (
           watch_added under k c own (reads_first ms 0 v.scope k cell k refl e) under (opens_same ms under (even_born v k cell t o.even)),

@@ -5,7 +5,7 @@ use Rattle.std.specs.Fmt.{decimal}
 use Rattle.token_system.specs.declared.cell.Token.{Token}
 use Rattle.token_system.specs.declared.cell.Kind.TheVariants.{Signal}
 use Rattle.agent_core.specs.declared.node.CellDecl.{CellDecl}
-use Rattle.agent_core.specs.Agents.{Agent, Ask}
+use Rattle.agent_core.specs.Agents.{Agent, Constraint}
 use Rattle.agent_core.specs.Agents as agent
 use Rattle.expansion_laws.specs.Sketches.{Sketch, Skip, Tell, Then, Else, Par, New, Hence, Next, marks}
 
@@ -22,7 +22,7 @@ abbrev pub cell_of : List Placed → ℕ → ℕ
 cell_of [] mark = mark
 cell_of (p ∷ ps) mark = if nat_eq p.mark mark then p.cell else cell_of ps mark
 
-abbrev pub ask_of : List Placed → Ask → Ask
+abbrev pub ask_of : List Placed → Constraint → Constraint
 ask_of scope ask = map (λ (pair : ℕ × Token). (cell_of scope pair.0, pair.1)) ask
 
 -- the agent of a sketch under these cells, where so many cells stand before its own

@@ -2,7 +2,7 @@
 use Rattle.std.specs.Prelude.{◌≡◌, ◌⊎◌, ℕ, suc, ◌+◌, ◌<◌, List, [], ◌∷◌, ◌++◌, map, Some, All, slice_get, unwrap_or}
 use Rattle.token_system.specs.declared.cell.Token.{Token}
 use Rattle.agent_core.specs.declared.node.Node.TheVariants as nodes
-use Rattle.agent_core.specs.Agents.{Ask, agent_at}
+use Rattle.agent_core.specs.Agents.{Constraint, agent_at}
 use Rattle.agent_core.specs.Programs.{CoreProgram}
 use Rattle.agent_core.specs.Listing as core
 use Rattle.agent_core.specs.Facts.{count_up}
@@ -53,7 +53,7 @@ abbrev pub cell_marks : SurfaceProgram → Sketch → List ℕ
 cell_marks s d = count_up 0 s.declared ++ marks d
 
 -- the constraint that this one copies, by the marks of its cells
-abbrev pub copied : List ℕ → Ask → Ask
+abbrev pub copied : List ℕ → Constraint → Constraint
 copied ms ask = map (λ (pair : ℕ × Token). (unwrap_or (slice_get ms pair.0) pair.0, pair.1)) ask
 
 -- the new of this cell stands around the node
@@ -65,5 +65,5 @@ pub record IsAround (p : CoreProgram) (cell n : ℕ) : Type 0 where
   pub inside : n < new + core.size (agent_at p.nodes new)
 
 -- each cell of the constraint is declared, or its new stands around the node
-abbrev pub AreAround : CoreProgram → Ask → ℕ → Type 0
+abbrev pub AreAround : CoreProgram → Constraint → ℕ → Type 0
 AreAround p ask n = All (λ (pair : ℕ × Token). (pair.0 < p.declared) ⊎ IsAround p pair.0 n) ask

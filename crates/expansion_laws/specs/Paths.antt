@@ -3,7 +3,7 @@
 use Rattle.std.specs.Prelude.{◌≡◌, ◌⊎◌, ℕ, suc, ◌+◌, ◌<◌, ◌≤◌, List, ◌∷◌, [], ◌++◌, length, take, Some, None, All, Contains, slice_get, IsTrue, IsFalse}
 use Rattle.token_system.specs.declared.cell.Token.{Token}
 use Rattle.token_system.specs.Stores.{Valuation}
-use Rattle.agent_core.specs.Agents.{Ask}
+use Rattle.agent_core.specs.Agents.{Constraint}
 use Rattle.agent_core.specs.Agents as agent
 use Rattle.agent_core.specs.Programs.{CoreProgram}
 use Rattle.token_system.specs.declared.name.CellName.TheVariants.{Local}
@@ -24,13 +24,13 @@ abbrev pub IsHidden : SurfaceProgram → Sketch → ℕ → ℕ → Type 0
 IsHidden s d m k = slice_get (cell_marks s d) k ≡ Some (length s.cells + m)
 
 -- the leaf copies the tell of this constraint that form m is
-pub record IsCopyOf (s : SurfaceProgram) (d : Sketch) (p : CoreProgram) (m : ℕ) (c : Ask) (l : Leaf) (ask : Ask) : Type 0 where
+pub record IsCopyOf (s : SurfaceProgram) (d : Sketch) (p : CoreProgram) (m : ℕ) (c : Constraint) (l : Leaf) (ask : Constraint) : Type 0 where
   pub origin : slice_get (origins d) l.node ≡ Some (Some m)
   pub copies : copied (cell_marks s d) ask ≡ c
   pub around : AreAround p ask l.node
 
 -- an expansion added the leaf, and it tells the hidden signal of form m
-pub record IsAddedFor (s : SurfaceProgram) (d : Sketch) (p : CoreProgram) (m : ℕ) (l : Leaf) (ask : Ask) : Type 0 where
+pub record IsAddedFor (s : SurfaceProgram) (d : Sketch) (p : CoreProgram) (m : ℕ) (l : Leaf) (ask : Constraint) : Type 0 where
   pub origin : slice_get (origins d) l.node ≡ Some None
   pub hidden : ℕ
   pub is : IsHidden s d m hidden
@@ -40,8 +40,8 @@ pub record IsAddedFor (s : SurfaceProgram) (d : Sketch) (p : CoreProgram) (m : �
 -- Each tell copies one of the tree, or an expansion added it for a form of the tree.
 abbrev pub TellsStem : SurfaceProgram → Tree → Sketch → CoreProgram → Type 0
 TellsStem s tree d p =
-    (z : List Valuation) (l : Leaf) (ask : Ask) → Contains (leaves p (roots p z) (length z)) l → l.agent ≡ agent.Tell ask →
-    ((m : ℕ) × (c : Ask) × Contains (parts 0 tree) (part m (Tell c)) × IsCopyOf s d p m c l ask)
+    (z : List Valuation) (l : Leaf) (ask : Constraint) → Contains (leaves p (roots p z) (length z)) l → l.agent ≡ agent.Tell ask →
+    ((m : ℕ) × (c : Constraint) × Contains (parts 0 tree) (part m (Tell c)) × IsCopyOf s d p m c l ask)
     ⊎ ((m : ℕ) × (t : Tree) × Contains (parts 0 tree) (part m t) × IsAddedFor s d p m l ask)
 
 -- the leaf copies this form, or an expansion added it for the hidden signal of this form
@@ -53,7 +53,7 @@ StemsFrom s d l m =
 -- the leaf is one of the instant after these closed stores, it is a tell, and it stems from a form inside this one
 pub record IsTellInside (s : SurfaceProgram) (d : Sketch) (p : CoreProgram) (z : List Valuation) (m : ℕ) (a : Tree) (l : Leaf) : Type 0 where
   pub leaf : Contains (leaves p (roots p z) (length z)) l
-  pub ask : Ask
+  pub ask : Constraint
   pub tells : l.agent ≡ agent.Tell ask
   pub form : ℕ
   pub stems : StemsFrom s d l form
@@ -64,14 +64,14 @@ pub record IsTellInside (s : SurfaceProgram) (d : Sketch) (p : CoreProgram) (z :
 -- copy of the watching that stands around it.
 abbrev pub TellsAreGuarded : SurfaceProgram → Tree → Sketch → CoreProgram → Type 0
 TellsAreGuarded s tree d p =
-    (m : ℕ) (a : Tree) (c : Ask) (z : List Valuation) (l : Leaf) →
+    (m : ℕ) (a : Tree) (c : Constraint) (z : List Valuation) (l : Leaf) →
     Contains (parts 0 tree) (part m (Watch a c)) → IsTellInside s d p z m a l →
     (k : ℕ) × IsHidden s d m k × IsAround p k l.node × Contains l.path (Denies l.births (on k))
 
 -- the clock that a leaf's path asks for: it copies this constraint, its local cells are those of news around the leaf, and the
 -- births under which it is asked for name its cells as those of the leaf do
-pub record IsOnClock (s : SurfaceProgram) (d : Sketch) (p : CoreProgram) (l : Leaf) (c : Ask) : Type 0 where
-  pub ask : Ask
+pub record IsOnClock (s : SurfaceProgram) (d : Sketch) (p : CoreProgram) (l : Leaf) (c : Constraint) : Type 0 where
+  pub ask : Constraint
   pub copies : copied (cell_marks s d) ask ≡ c
   pub around : AreAround p ask l.node
   pub births : List ℕ
@@ -81,12 +81,12 @@ pub record IsOnClock (s : SurfaceProgram) (d : Sketch) (p : CoreProgram) (l : Le
 -- Each tell that stems from a form inside a time is on the clock.
 abbrev pub TellsAreClocked : SurfaceProgram → Tree → Sketch → CoreProgram → Type 0
 TellsAreClocked s tree d p =
-    (m : ℕ) (a : Tree) (c : Ask) (z : List Valuation) (l : Leaf) →
+    (m : ℕ) (a : Tree) (c : Constraint) (z : List Valuation) (l : Leaf) →
     Contains (parts 0 tree) (part m (Time a c)) → IsTellInside s d p z m a l → IsOnClock s d p l c
 
 -- the leaf belongs to a watching on this constraint that was started at this instant, under these births; the third node
 -- behind the new of its hidden signal asks for the constraint
-pub record IsWatched (s : SurfaceProgram) (d : Sketch) (p : CoreProgram) (m : ℕ) (c : Ask) (l : Leaf) (start : ℕ) (births : List ℕ) (ask : Ask) : Type 0 where
+pub record IsWatched (s : SurfaceProgram) (d : Sketch) (p : CoreProgram) (m : ℕ) (c : Constraint) (l : Leaf) (start : ℕ) (births : List ℕ) (ask : Constraint) : Type 0 where
   pub hidden : ℕ
   pub is : IsHidden s d m hidden
   pub around : IsAround p hidden l.node
@@ -102,8 +102,8 @@ pub record IsWatched (s : SurfaceProgram) (d : Sketch) (p : CoreProgram) (m : �
 -- started at some instant; once an output since then entails its constraint, the tell is not run.
 abbrev pub StopsForGood : SurfaceProgram → Tree → Sketch → CoreProgram → Type 0
 StopsForGood s tree d p =
-    (m : ℕ) (a : Tree) (c : Ask) (ins outs : List Valuation) (t : ℕ) (v : Valuation) (l : Leaf) →
+    (m : ℕ) (a : Tree) (c : Constraint) (ins outs : List Valuation) (t : ℕ) (v : Valuation) (l : Leaf) →
     Contains (free_parts 0 tree) (part m (Watch a c)) → IsRun p ins outs → slice_get outs t ≡ Some v →
     IsTellInside s d p (take t outs) m a l →
-    (start : ℕ) × (births : List ℕ) × (ask : Ask) × IsWatched s d p m c l start births ask × (start ≤ t)
+    (start : ℕ) × (births : List ℕ) × (ask : Constraint) × IsWatched s d p m c l start births ask × (start ≤ t)
     × ((n : ℕ) (w : Valuation) → start ≤ n → n ≤ t → slice_get outs n ≡ Some w → IsTrue (entails p births w ask) → IsFalse (runs p v l))

@@ -2,13 +2,13 @@
 -- and a new has a mark for its cell, which says what the cell stands for. Several news may have one mark: the
 -- nearest one around a token is meant. This project's own.
 use Rattle.std.specs.Prelude.{ℕ, suc, ◌+◌, List, [], ◌∷◌, ◌++◌, Option}
-use Rattle.agent_core.specs.Agents.{Ask}
+use Rattle.agent_core.specs.Agents.{Constraint}
 
 pub data Sketch : Type 0 where
   Skip : (origin : Option ℕ) → Sketch
-  Tell : (origin : Option ℕ) → (ask : Ask) → Sketch
-  Then : (origin : Option ℕ) → (ask : Ask) → (body : Sketch) → Sketch
-  Else : (origin : Option ℕ) → (ask : Ask) → (body : Sketch) → Sketch
+  Tell : (origin : Option ℕ) → (ask : Constraint) → Sketch
+  Then : (origin : Option ℕ) → (ask : Constraint) → (body : Sketch) → Sketch
+  Else : (origin : Option ℕ) → (ask : Constraint) → (body : Sketch) → Sketch
   Par : (origin : Option ℕ) → (left right : Sketch) → Sketch
   New : (origin : Option ℕ) → (mark : ℕ) → (body : Sketch) → Sketch
   Hence : (origin : Option ℕ) → (body : Sketch) → Sketch

@@ -2,11 +2,11 @@
 -- concurrent constraint programming (Saraswat, Jagadeesan and Gupta 1994/1996).
 use Rattle.std.specs.Prelude.{ℕ, [], ◌∷◌, None}
 use Rattle.token_system.specs.declared.cell.Token.TheVariants as token
-use Rattle.agent_core.specs.Agents.{Ask}
+use Rattle.agent_core.specs.Agents.{Constraint}
 use Rattle.expansion_laws.specs.Sketches.{Sketch, Skip, Tell, Then, Else, Par, New, Hence, Next}
 
 -- the signal with this mark is on
-abbrev pub on : ℕ → Ask
+abbrev pub on : ℕ → Constraint
 on mark = (mark, token.On) ∷ []
 
 -- A now, and at every later instant
@@ -14,7 +14,7 @@ abbrev pub always : Sketch → Sketch
 always a = Par None a (Hence None a)
 
 -- The hidden signal d is on from the first instant on that entails c. At this instant, where d is not on yet, A is started.
-abbrev pub when : ℕ → Ask → Sketch → Sketch
+abbrev pub when : ℕ → Constraint → Sketch → Sketch
 when d c a = New None d (always (Then None c (Par None (Else None (on d) a) (Hence None (Tell None (on d))))))
 
 -- each tell waits for k to be absent
@@ -29,11 +29,11 @@ guarded k (Hence o a) = Hence o (guarded k a)
 guarded k (Next o a) = Next o (guarded k a)
 
 -- The hidden signal k is on from each instant on that entails c, and the tells of A wait for its absence.
-abbrev pub watching : ℕ → Ask → Sketch → Sketch
+abbrev pub watching : ℕ → Constraint → Sketch → Sketch
 watching k c a = New None k (Par None (always (Then None c (Par None (Tell None (on k)) (Hence None (Tell None (on k)))))) (guarded k a))
 
 -- What A leaves for later is for the instants alone that entail c: the next one of these, or all of them.
-abbrev pub clocked : ℕ → Ask → Sketch → Sketch
+abbrev pub clocked : ℕ → Constraint → Sketch → Sketch
 clocked d c (Skip o) = Skip o
 clocked d c (Tell o b) = Tell o b
 clocked d c (Then o b a) = Then o b (clocked d c a)
@@ -44,5 +44,5 @@ clocked d c (Next o a) = Next o (when d c (clocked d c a))
 clocked d c (Hence o a) = Hence o (Then None c (clocked d c a))
 
 -- A on the clock c: from the first instant on that entails c
-abbrev pub timed : ℕ → Ask → Sketch → Sketch
+abbrev pub timed : ℕ → Constraint → Sketch → Sketch
 timed d c a = when d c (clocked d c a)

@@ -12,7 +12,7 @@ use Rattle.token_system.specs.declared.cell.Token.TheVariants.{On}
 use Rattle.token_system.specs.declared.cell.Value.TheVariants as values
 use Rattle.token_system.specs.Texts.{is_name}
 use Rattle.agent_core.specs.declared.node.CellDecl.{CellDecl}
-use Rattle.agent_core.specs.Agents.{Ask}
+use Rattle.agent_core.specs.Agents.{Constraint}
 use Rattle.agent_core.specs.Programs.{CoreProgram}
 use Rattle.agent_core.specs.Tellings.{tell_all}
 use Rattle.expansion_laws.specs.Sketches.{marks}
@@ -63,7 +63,7 @@ space_joined (text ∷ next ∷ texts) = ap (λ (t : List ℕ). text ++ (32 ∷ 
 
 -- the line says some tokens
 abbrev IsSaid : CoreProgram → List ℕ → Type 0
-IsSaid p line = (tokens : Ask) × SayAll p (pieces line) tokens
+IsSaid p line = (tokens : Constraint) × SayAll p (pieces line) tokens
 
 module _ (n : ℕ) (p : CoreProgram) (is : IsExpansion (surface n) p) where
   -- the cells of the text are those that are declared
@@ -93,7 +93,7 @@ module _ (n : ℕ) (p : CoreProgram) (is : IsExpansion (surface n) p) where
   line_said x =
       let row : List ℕ = range_with_len 1 (drawn x 0 4) in
       let texts : List (List ℕ) = map (λ k. signal_name (drawn x k 32)) row in
-      let tokens : Ask = map (λ k. (drawn x k 32, On)) row in
+      let tokens : Constraint = map (λ k. (drawn x k 32, On)) row in
       (tokens, subst (λ (line : List ℕ). SayAll p (pieces line) tokens) (space_joined texts) (line_says p texts tokens (row_says (λ k. drawn x k 32) 1 (drawn x 0 4) (λ k. drawn-lt x k 32 (omega arith)))))
 
   lines_said : (x count : ℕ) → All (IsSaid p) (lines_after x count)

@@ -5,7 +5,8 @@ use Rattle.token_system.specs.declared.cell.Kind.TheVariants as kind
 use Rattle.token_system.specs.declared.cell.Token.TheVariants as token
 use Rattle.agent_core.specs.declared.node.CellDecl.{CellDecl}
 use Rattle.tdcc_reader.specs.Surfaces.{SurfaceProgram}
-use Rattle.tdcc_reader.specs.Trees.{Ask, Tree, Skip, Tell, Then, Else, Par, Next, Always, When, Watch, listing}
+use Rattle.tdcc_reader.specs.Trees.{Tree, Skip, Tell, Then, Else, Par, Next, Always, When, Watch, listing}
+use Rattle.agent_core.specs.Agents.{Constraint}
 use Rattle.trace_text.specs.Generated.{signal_name, number_name}
 use Rattle.generated_laws.specs.GeneratedParts.{Part, Follows, Defaults, Delays, Starts, Ends, Bounds, parts}
 
@@ -24,11 +25,11 @@ cells = map signal_cell (range_with_len 0 32) ++ map number_cell (range_with_len
 -- FORMS
 
 -- the signal j is on
-abbrev pub on : ℕ → Ask
+abbrev pub on : ℕ → Constraint
 on j = (j, token.On) ∷ []
 
 -- the number i is k or more
-abbrev pub at_least : ℕ → ℕ → Ask
+abbrev pub at_least : ℕ → ℕ → Constraint
 at_least i k = (32 + i, token.AtLeast (pos k)) ∷ []
 
 -- the forms of a part

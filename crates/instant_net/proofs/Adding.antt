@@ -6,7 +6,7 @@ use Rattle.std.proofs.lemmas.Grind.{flat_map-append}
 use Rattle.agent_core.specs.declared.node.Node.{Node}
 use Rattle.agent_core.specs.declared.node.Node.TheVariants as nodes
 use Rattle.agent_core.specs.declared.node.Closure.{Closure}
-use Rattle.agent_core.specs.Agents.{Agent, Ask, Skip, Tell, Hence, Next, agent_of, agent_at}
+use Rattle.agent_core.specs.Agents.{Agent, Constraint, Skip, Tell, Hence, Next, agent_of, agent_at}
 use Rattle.agent_core.specs.Programs.{CoreProgram}
 use Rattle.agent_core.specs.Facts.{IsProgram}
 use Rattle.agent_core.specs.Leaves as core
@@ -66,7 +66,7 @@ module _ (p : CoreProgram) (is : IsProgram p) (cells : List NetCell) (t n : ℕ)
   pub adds-skip : slice_get p.nodes n ≡ Some nodes.Skip → (gs gs' : List NetGuard) (ls ls' : List NetLeaf) → gs' ≡ gs → ls' ≡ ls ++ record { kind = kinds.Idle; last = last } ∷ [] → Adds p cells t n b last gs gs' ls ls'
   adds-skip found = adds-leaf Skip (agent-is p is n nodes.Skip found) (λ path. refl) (λ path. refl) kinds.Idle refl (All-nil (AtomFits cells))
 
-  pub adds-tell : (c : Ask) (told : List Atom) → slice_get p.nodes n ≡ Some (nodes.Tell c) → AreAtomsOf p cells b c told
+  pub adds-tell : (c : Constraint) (told : List Atom) → slice_get p.nodes n ≡ Some (nodes.Tell c) → AreAtomsOf p cells b c told
       → (gs gs' : List NetGuard) (ls ls' : List NetLeaf) → gs' ≡ gs → ls' ≡ ls ++ record { kind = kinds.Tells told; last = last } ∷ [] → Adds p cells t n b last gs gs' ls ls'
   adds-tell c told found are = adds-leaf (Tell c) (agent-is p is n (nodes.Tell c) found) (λ path. refl) (λ path. refl) (kinds.Tells told) (ap Tells are.same) are.fit
 
@@ -118,7 +118,7 @@ module _ (p : CoreProgram) (is : IsProgram p) (cells : List NetCell) (t n : ℕ)
   }
 
   -- a guard, and what is below it
-  adds-guard : (strict : Bool) (c : Ask) (mk : core.Guard) → guard_named p mk ≡ record { strict = strict; ask = ask_named p b c } → (m : ℕ) → ((path : List core.Guard) → below p is n t b path n ≡ below p is n t b (path ++ mk ∷ []) m)
+  adds-guard : (strict : Bool) (c : Constraint) (mk : core.Guard) → guard_named p mk ≡ record { strict = strict; ask = ask_named p b c } → (m : ℕ) → ((path : List core.Guard) → below p is n t b path n ≡ below p is n t b (path ++ mk ∷ []) m)
       → ((path : List core.Guard) → occurrences_of t (agent_at p.nodes n) b path ≡ occurrence mk path ∷ occurrences_of t (agent_at p.nodes m) b (path ++ mk ∷ []))
       → (ask : List Atom) → AreAtomsOf p cells b c ask → (k : ℕ) (gs gs' gs'' gs''' : List NetGuard) (ls ls' ls'' ls''' : List NetLeaf) (g : NetGuard)
       → k ≡ length gs → gs' ≡ gs ++ g ∷ [] → IsBegun strict ask last (length ls) g → ls' ≡ ls → Adds p cells t m b (Some k) gs' gs'' ls' ls'' → IsEnded gs'' gs''' k (length ls'') → ls''' ≡ ls''
@@ -148,13 +148,13 @@ module _ (p : CoreProgram) (is : IsProgram p) (cells : List NetCell) (t n : ℕ)
             (same-grown (ap Some ek) (map-append (guard_named p) path (mk ∷ []) ∙ ap (λ (x : Guard). way ++ x ∷ []) call) (length-more gs gs' g eg) (ap length el) refl refl (h.grown (path ++ mk ∷ []))));
       }
 
-  pub adds-then : (c : Ask) (m : ℕ) → slice_get p.nodes n ≡ Some (nodes.Then c m) → (ask : List Atom) → AreAtomsOf p cells b c ask
+  pub adds-then : (c : Constraint) (m : ℕ) → slice_get p.nodes n ≡ Some (nodes.Then c m) → (ask : List Atom) → AreAtomsOf p cells b c ask
       → (k : ℕ) (gs gs' gs'' gs''' : List NetGuard) (ls ls' ls'' ls''' : List NetLeaf) (g : NetGuard)
       → k ≡ length gs → gs' ≡ gs ++ g ∷ [] → IsBegun false ask last (length ls) g → ls' ≡ ls → Adds p cells t m b (Some k) gs' gs'' ls' ls'' → IsEnded gs'' gs''' k (length ls'') → ls''' ≡ ls''
       → Adds p cells t n b last gs gs''' ls ls'''
   adds-then c m found = adds-guard false c (core.Asks b c) refl m (λ path. then-below p is n t b path c m found) (inside (nodes.Then c m) found)
 
-  pub adds-else : (c : Ask) (m : ℕ) → slice_get p.nodes n ≡ Some (nodes.Else c m) → (ask : List Atom) → AreAtomsOf p cells b c ask
+  pub adds-else : (c : Constraint) (m : ℕ) → slice_get p.nodes n ≡ Some (nodes.Else c m) → (ask : List Atom) → AreAtomsOf p cells b c ask
       → (k : ℕ) (gs gs' gs'' gs''' : List NetGuard) (ls ls' ls'' ls''' : List NetLeaf) (g : NetGuard)
       → k ≡ length gs → gs' ≡ gs ++ g ∷ [] → IsBegun true ask last (length ls) g → ls' ≡ ls → Adds p cells t m b (Some k) gs' gs'' ls' ls'' → IsEnded gs'' gs''' k (length ls'') → ls''' ≡ ls''
       → Adds p cells t n b last gs gs''' ls ls'''

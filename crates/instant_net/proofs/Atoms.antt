@@ -8,7 +8,7 @@ use Rattle.token_system.specs.declared.cell.Token.{Token}
 use Rattle.token_system.specs.declared.name.CellName.{CellName}
 use Rattle.token_system.specs.Tokens.{Fits}
 use Rattle.agent_core.specs.declared.node.CellDecl.{CellDecl}
-use Rattle.agent_core.specs.Agents.{Ask}
+use Rattle.agent_core.specs.Agents.{Constraint}
 use Rattle.agent_core.specs.Programs.{CoreProgram}
 use Rattle.agent_core.specs.Names.{Names, name_of}
 use Rattle.agent_core.specs.Scope.{TokenFits, AskFits}
@@ -50,16 +50,16 @@ module _ (p : CoreProgram) (cells : List NetCell) (b : List ℕ) where
   named-append [] ys = refl
   named-append (x ∷ xs) ys = ap (λ zs. named_at (slice_get cells x.cell) x ++ zs) (named-append xs ys) ∙ sym (append_assoc (named_at (slice_get cells x.cell) x) (named cells xs) (named cells ys))
 
-  ask_named-append : (xs ys : Ask) → ask_named p b (xs ++ ys) ≡ ask_named p b xs ++ ask_named p b ys
+  ask_named-append : (xs ys : Constraint) → ask_named p b (xs ++ ys) ≡ ask_named p b xs ++ ask_named p b ys
   ask_named-append [] ys = refl
   ask_named-append (x ∷ xs) ys =
       ap (λ zs. token_named p b x.0 x.1 (slice_get p.cells x.0) ++ zs) (ask_named-append xs ys)
       ∙ sym (append_assoc (token_named p b x.0 x.1 (slice_get p.cells x.0)) (ask_named p b xs) (ask_named p b ys))
 
-  pub atoms-none : (items : Ask) (atoms : List Atom) → atoms ≡ [] → AreAtomsOf p cells b (take 0 items) atoms
+  pub atoms-none : (items : Constraint) (atoms : List Atom) → atoms ≡ [] → AreAtomsOf p cells b (take 0 items) atoms
   atoms-none items atoms e = record { same = ap (named cells) e; fit = subst (All (AtomFits cells)) (sym e) (All-nil (AtomFits cells)) }
 
-  pub atoms-next : (items : Ask) (i : ℕ) (x : ℕ × Token) (atoms atoms' : List Atom) (a : Atom) → i < length items → AreAtomsOf p cells b (take i items) atoms → IsAtomOf p cells b (get_or items i x) a → atoms' ≡ atoms ++ a ∷ []
+  pub atoms-next : (items : Constraint) (i : ℕ) (x : ℕ × Token) (atoms atoms' : List Atom) (a : Atom) → i < length items → AreAtomsOf p cells b (take i items) atoms → IsAtomOf p cells b (get_or items i x) a → atoms' ≡ atoms ++ a ∷ []
       → AreAtomsOf p cells b (take (i + 1) items) atoms'
   atoms-next items i x atoms atoms' a lt h one e =
       let y : ℕ × Token = get_or items i x in
@@ -73,9 +73,9 @@ module _ (p : CoreProgram) (cells : List NetCell) (b : List ℕ) where
         fit = subst (All (AtomFits cells)) (sym e) (All-push (AtomFits cells) atoms a h.fit one.fits);
       }
 
-  pub atoms-all : (items ask : Ask) (i : ℕ) (atoms : List Atom) → length items ≤ i → items ≡ ask → AreAtomsOf p cells b (take i items) atoms → AreAtomsOf p cells b ask atoms
-  atoms-all items ask i atoms le e h = subst (λ (xs : Ask). AreAtomsOf p cells b xs atoms) (take_all i items le ∙ e) h
+  pub atoms-all : (items ask : Constraint) (i : ℕ) (atoms : List Atom) → length items ≤ i → items ≡ ask → AreAtomsOf p cells b (take i items) atoms → AreAtomsOf p cells b ask atoms
+  atoms-all items ask i atoms le e h = subst (λ (xs : Constraint). AreAtomsOf p cells b xs atoms) (take_all i items le ∙ e) h
 
 -- the tokens from one on fit
-pub next-fits : (p : CoreProgram) (b : List ℕ) (items : Ask) (i : ℕ) (x : ℕ × Token) → i < length items → AskFits p b (drop i items) → TokenFits p b (get_or items i x) × AskFits p b (drop (i + 1) items)
+pub next-fits : (p : CoreProgram) (b : List ℕ) (items : Constraint) (i : ℕ) (x : ℕ × Token) → i < length items → AskFits p b (drop i items) → TokenFits p b (get_or items i x) × AskFits p b (drop (i + 1) items)
 next-fits p b items i x lt h = subst (AskFits p b) (drop_more items i x lt) h

@@ -7,7 +7,7 @@ use Rattle.agent_core.specs.declared.node.Node.TheVariants as nodes
 use Rattle.agent_core.proofs.Parts.{IsPart}
 use Rattle.agent_core.proofs.RestTests.{node_found}
 use Rattle.agent_core.specs.declared.node.Closure.{Closure}
-use Rattle.agent_core.specs.Agents.{Agent, Ask, Skip, Tell, Then, Else, Par, New, Hence, Next, agent_of, agent_at}
+use Rattle.agent_core.specs.Agents.{Agent, Constraint, Skip, Tell, Then, Else, Par, New, Hence, Next, agent_of, agent_at}
 use Rattle.agent_core.specs.Programs.{CoreProgram}
 use Rattle.agent_core.specs.Facts.{IsProgram}
 use Rattle.agent_core.specs.Listing.{size}
@@ -109,7 +109,7 @@ node-found = node_found
 
 -- what the pattern of a node with one part within the instant says
 abbrev pub HasBody : Node → ℕ → Type 0
-HasBody d m = ((c : Ask) × (d ≡ nodes.Then c m)) ⊎ (((c : Ask) × (d ≡ nodes.Else c m)) ⊎ ((cell : ℕ) × (d ≡ nodes.New cell m)))
+HasBody d m = ((c : Constraint) × (d ≡ nodes.Then c m)) ⊎ (((c : Constraint) × (d ≡ nodes.Else c m)) ⊎ ((cell : ℕ) × (d ≡ nodes.New cell m)))
 
 -- the part is behind its node, and one of the program's
 pub record HasPart (p : CoreProgram) (n m : ℕ) : Type 0 where
@@ -139,7 +139,7 @@ module _ (p : CoreProgram) (is : IsProgram p) (n : ℕ) where
   count-body d m found (inr (inl e)) = count-node p is n (nodes.Else e.0 m) (found ∙ ap Some e.1)
   count-body d m found (inr (inr e)) = count-node p is n (nodes.New e.0 m) (found ∙ ap Some e.1)
 
-  pub one-leaf : (d : Node) → slice_get p.nodes n ≡ Some d → (d ≡ nodes.Skip) ⊎ (((c : Ask) × (d ≡ nodes.Tell c)) ⊎ (((m : ℕ) × (d ≡ nodes.Hence m)) ⊎ ((m : ℕ) × (d ≡ nodes.Next m)))) → 1 ≡ leaf_count (agent_at p.nodes n)
+  pub one-leaf : (d : Node) → slice_get p.nodes n ≡ Some d → (d ≡ nodes.Skip) ⊎ (((c : Constraint) × (d ≡ nodes.Tell c)) ⊎ (((m : ℕ) × (d ≡ nodes.Hence m)) ⊎ ((m : ℕ) × (d ≡ nodes.Next m)))) → 1 ≡ leaf_count (agent_at p.nodes n)
   one-leaf d found (inl e) = count-node p is n nodes.Skip (found ∙ ap Some e)
   one-leaf d found (inr (inl e)) = count-node p is n (nodes.Tell e.0) (found ∙ ap Some e.1)
   one-leaf d found (inr (inr (inl e))) = count-node p is n (nodes.Hence e.0) (found ∙ ap Some e.1)

@@ -14,7 +14,7 @@ use Rattle.token_system.specs.Names.{name_cmp, name_cmp-IsAntisymmetric}
 use Rattle.agent_core.specs.declared.node.Closure.{Closure}
 use Rattle.agent_core.specs.declared.node.Node.{Node}
 use Rattle.agent_core.specs.declared.node.Node.TheVariants as nodes
-use Rattle.agent_core.specs.Agents.{Agent, Ask, Skip, Tell, Then, Else, Par, New, Hence, Next, agent_of, agent_at}
+use Rattle.agent_core.specs.Agents.{Agent, Constraint, Skip, Tell, Then, Else, Par, New, Hence, Next, agent_of, agent_at}
 use Rattle.agent_core.specs.Programs.{CoreProgram}
 use Rattle.agent_core.specs.Facts.{IsProgram}
 use Rattle.agent_core.specs.Names.{IsClosure, name_of, depth_of}
@@ -57,18 +57,18 @@ module _ (k : CellName) where
 -- ONE CONSTRAINT
 
 module _ (p : CoreProgram) (b : List ℕ) where
-  ask-kept : (before after : List CellName) → Keeps before after → (ask : Ask) → AskCovered p b before ask → AskCovered p b after ask
+  ask-kept : (before after : List CellName) → Keeps before after → (ask : Constraint) → AskCovered p b before ask → AskCovered p b after ask
   ask-kept before after keeps ask h = All-weaker (TokenCovered p b before) (TokenCovered p b after) (λ x covered le. keeps (name_of p b x.0) (covered le)) ask h
 
-  pub asks-none : (items : Ask) (names : List CellName) → CoversAsk p b (take 0 items) names names
+  pub asks-none : (items : Constraint) (names : List CellName) → CoversAsk p b (take 0 items) names names
   asks-none items names = record { keeps = λ q h. h; covers = All-nil (TokenCovered p b names) }
 
   -- a declared cell needs no name
-  pub asks-declared : (items : Ask) (i : ℕ) (x : ℕ × Token) (before after : List CellName) → i < length items → (get_or items i x).0 < p.declared → CoversAsk p b (take i items) before after → CoversAsk p b (take (i + 1) items) before after
+  pub asks-declared : (items : Constraint) (i : ℕ) (x : ℕ × Token) (before after : List CellName) → i < length items → (get_or items i x).0 < p.declared → CoversAsk p b (take i items) before after → CoversAsk p b (take (i + 1) items) before after
   asks-declared items i x before after lt few h = record { keeps = h.keeps; covers = All-more (TokenCovered p b after) items i x lt h.covers (λ le. absurd (omega arith)) }
 
   -- one more name of the constraint is inserted
-  pub asks-local : (items : Ask) (i : ℕ) (x : ℕ × Token) (before mid after : List CellName) (n : CellName) → i < length items → n ≡ name_of p b (get_or items i x).0 → after ≡ insert_key name_cmp mid n
+  pub asks-local : (items : Constraint) (i : ℕ) (x : ℕ × Token) (before mid after : List CellName) (n : CellName) → i < length items → n ≡ name_of p b (get_or items i x).0 → after ≡ insert_key name_cmp mid n
       → CoversAsk p b (take i items) before mid → CoversAsk p b (take (i + 1) items) before after
   asks-local items i x before mid after n lt is e h =
       let grown : List CellName = insert_key name_cmp mid n in
@@ -79,8 +79,8 @@ module _ (p : CoreProgram) (b : List ℕ) where
             (λ le. subst (Contains grown) is (insert-has n mid));
       })
 
-  pub asks-all : (items ask : Ask) (i : ℕ) (before after : List CellName) → length items ≤ i → items ≡ ask → CoversAsk p b (take i items) before after → CoversAsk p b ask before after
-  asks-all items ask i before after le e h = subst (λ (xs : Ask). CoversAsk p b xs before after) (take_all i items le ∙ e) h
+  pub asks-all : (items ask : Constraint) (i : ℕ) (before after : List CellName) → length items ≤ i → items ≡ ask → CoversAsk p b (take i items) before after → CoversAsk p b ask before after
+  asks-all items ask i before after le e h = subst (λ (xs : Constraint). CoversAsk p b xs before after) (take_all i items le ∙ e) h
 
 -- NODES
 
@@ -108,10 +108,10 @@ module _ (p : CoreProgram) (t : ℕ) where
     covers-none node (inr (inl (m, e))) found names = whole (nodes.Hence m) (found ∙ ap Some e) names names (λ q h. h) tt
     covers-none node (inr (inr (m, e))) found names = whole (nodes.Next m) (found ∙ ap Some e) names names (λ q h. h) tt
 
-    pub covers-tell : (c : Ask) → slice_get p.nodes n ≡ Some (nodes.Tell c) → (before after : List CellName) → CoversAsk p b c before after → CoversNode p t n b before after
+    pub covers-tell : (c : Constraint) → slice_get p.nodes n ≡ Some (nodes.Tell c) → (before after : List CellName) → CoversAsk p b c before after → CoversNode p t n b before after
     covers-tell c found before after h = whole (nodes.Tell c) found before after h.keeps h.covers
 
-    pub covers-body : (d : Node) (c : Ask) (m : ℕ) → (d ≡ nodes.Then c m) ⊎ (d ≡ nodes.Else c m) → slice_get p.nodes n ≡ Some d
+    pub covers-body : (d : Node) (c : Constraint) (m : ℕ) → (d ≡ nodes.Then c m) ⊎ (d ≡ nodes.Else c m) → slice_get p.nodes n ≡ Some d
         → (before mid after : List CellName) → CoversAsk p b c before mid → CoversNode p t m b mid after → CoversNode p t n b before after
     covers-body d c m which found before mid after h h' = go which
       where
@@ -164,7 +164,7 @@ module _ (p : CoreProgram) (t : ℕ) where
     token-declared : (b : List ℕ) (x : ℕ × Token) → TokenFits p b x → TokenCovered p b names x
     token-declared b x f le = let lt = slice_get_within p.cells x.0 f.decl f.found in absurd (omega arith)
 
-    ask-declared : (b : List ℕ) (c : Ask) → AskFits p b c → AskCovered p b names c
+    ask-declared : (b : List ℕ) (c : Constraint) → AskFits p b c → AskCovered p b names c
     ask-declared b [] h = All-nil (TokenCovered p b names)
     ask-declared b (x ∷ c) h = All-cons (TokenCovered p b names) x c (token-declared b x h.0) (ask-declared b c h.1)
 

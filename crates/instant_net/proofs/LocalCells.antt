@@ -9,7 +9,7 @@ use Rattle.token_system.specs.declared.cell.Token.{Token}
 use Rattle.token_system.specs.declared.name.CellName.TheVariants.{Declared, Local as LocalName}
 use Rattle.agent_core.specs.declared.node.Node.{Node}
 use Rattle.agent_core.specs.declared.node.Node.TheVariants as nodes
-use Rattle.agent_core.specs.Agents.{Agent, Ask, Skip, Tell, Then, Else, Par, New, Hence, Next, agent_of, agent_at}
+use Rattle.agent_core.specs.Agents.{Agent, Constraint, Skip, Tell, Then, Else, Par, New, Hence, Next, agent_of, agent_at}
 use Rattle.agent_core.specs.Facts.{IsProgram, cell_of, count_up}
 use Rattle.agent_core.specs.Listing.{size, listing}
 use Rattle.agent_core.specs.Names.{Names, depth_of, local_name, name_of, new_of}
@@ -146,7 +146,7 @@ fitting_cell p b x f = slice_get_within p.cells x.0 f.decl f.found
 
 -- the node has this part alone, below no new node that is not around the node too
 abbrev pub HasOnly : Node → ℕ → Type 0
-HasOnly d m = ((c : Ask) × (d ≡ nodes.Then c m)) ⊎ (((c : Ask) × (d ≡ nodes.Else c m)) ⊎ ((d ≡ nodes.Hence m) ⊎ (d ≡ nodes.Next m)))
+HasOnly d m = ((c : Constraint) × (d ≡ nodes.Then c m)) ⊎ (((c : Constraint) × (d ≡ nodes.Else c m)) ⊎ ((d ≡ nodes.Hence m) ⊎ (d ≡ nodes.Next m)))
 
 module _ (p : CoreProgram) (is : IsProgram p) (n : ℕ) where
   abbrev NewsBelow : ℕ → ℕ → List Local
@@ -171,7 +171,7 @@ module _ (p : CoreProgram) (is : IsProgram p) (n : ℕ) where
   only_part node d m found (inr (inr (inl e))) = let at = node_of_listing p.nodes is.tree n (nodes.Hence m) (found ∙ ap Some e) in only (nodes.Hence m) d m (found ∙ ap Some e) at.parts.above at.parts.inside at.follow refl
   only_part node d m found (inr (inr (inr e))) = let at = node_of_listing p.nodes is.tree n (nodes.Next m) (found ∙ ap Some e) in only (nodes.Next m) d m (found ∙ ap Some e) at.parts.above at.parts.inside at.follow refl
 
-  pub no_news : (node : Node) (d : ℕ) → slice_get p.nodes n ≡ Some node → (node ≡ nodes.Skip) ⊎ ((c : Ask) × (node ≡ nodes.Tell c)) → NewsBelow d n ≡ []
+  pub no_news : (node : Node) (d : ℕ) → slice_get p.nodes n ≡ Some node → (node ≡ nodes.Skip) ⊎ ((c : Constraint) × (node ≡ nodes.Tell c)) → NewsBelow d n ≡ []
   no_news node d found (inl e) = ap (news_of n d) (node_of_listing p.nodes is.tree n nodes.Skip (found ∙ ap Some e)).tree
   no_news node d found (inr (c, e)) = ap (news_of n d) (node_of_listing p.nodes is.tree n (nodes.Tell c) (found ∙ ap Some e)).tree
 

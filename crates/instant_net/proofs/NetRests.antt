@@ -5,7 +5,7 @@ use Rattle.std.specs.List.{list_all}
 use Rattle.token_system.specs.Stores.{Valuation, store_entails}
 use Rattle.agent_core.specs.declared.node.CellDecl.{CellDecl}
 use Rattle.agent_core.specs.declared.node.Closure.{Closure}
-use Rattle.agent_core.specs.Agents.{Agent, Ask, Skip, Tell, Then, Else, Par, New, Hence, Next, agent_at}
+use Rattle.agent_core.specs.Agents.{Agent, Constraint, Skip, Tell, Then, Else, Par, New, Hence, Next, agent_at}
 use Rattle.agent_core.specs.Programs.{CoreProgram}
 use Rattle.agent_core.specs.Facts.{IsProgram}
 use Rattle.agent_core.specs.Listing.{size}
@@ -50,7 +50,7 @@ roots-fit p is rs own t = go rs (all_each (λ r. IsClosure p r.node r.births) rs
         (leaves-fit p t (agent_at p.nodes r.node) r.node r.births [] (closure_fits p is r.node r.births h.0 t) tt) (go rs h.1)
 
 module _ (p : CoreProgram) where
-  pub entails-named : (b : List ℕ) (c : Ask) (u : Valuation) → AskFits p b c → entails u (ask_named p b c) ≡ rests.entails p b u c
+  pub entails-named : (b : List ℕ) (c : Constraint) (u : Valuation) → AskFits p b c → entails u (ask_named p b c) ≡ rests.entails p b u c
   entails-named b [] u f = refl
   entails-named b (x ∷ c) u f =
       let d : CellDecl = f.0.decl in

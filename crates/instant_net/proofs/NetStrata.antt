@@ -7,7 +7,7 @@ use Rattle.token_system.specs.declared.cell.Token.{Token}
 use Rattle.token_system.specs.declared.name.CellName.TheVariants.{Declared}
 use Rattle.agent_core.specs.declared.node.CellDecl.{CellDecl}
 use Rattle.agent_core.specs.declared.node.Closure.{Closure}
-use Rattle.agent_core.specs.Agents.{Agent, Ask, Skip, Tell, Then, Else, Par, New, Hence, Next, agent_at}
+use Rattle.agent_core.specs.Agents.{Agent, Constraint, Skip, Tell, Then, Else, Par, New, Hence, Next, agent_at}
 use Rattle.agent_core.specs.Programs.{CoreProgram}
 use Rattle.agent_core.specs.Facts.{IsProgram}
 use Rattle.agent_core.specs.Names.{IsClosure, name_of, local_name, new_of}
@@ -61,7 +61,7 @@ module _ (p : CoreProgram) (is : IsProgram p) where
       go false e = ap new_cell (new_of-found p is x.0 f.decl e f.found).1
 
   -- what holds of each cell of a constraint holds of the cell of each name
-  asked-each : (P : ℕ → Type 0) (b : List ℕ) (c : Ask) (z : Named) → AskFits p b c → Each (λ x. P x.0) c → Contains (ask_named p b c) z → P (cell_named p z.name)
+  asked-each : (P : ℕ → Type 0) (b : List ℕ) (c : Constraint) (z : Named) → AskFits p b c → Each (λ x. P x.0) c → Contains (ask_named p b c) z → P (cell_named p z.name)
   asked-each P b [] z f h (k, lt, e) = absurd (omega arith)
   asked-each P b (x ∷ c) z f h at =
       let d : CellDecl = f.0.decl in

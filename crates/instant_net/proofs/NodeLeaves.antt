@@ -3,7 +3,7 @@ use Rattle.std.proofs.Common.{◌≡◌, ℕ, suc, ◌+◌, List, [], ◌∷◌,
 use Rattle.std.specs.Prelude.{slice_get}
 use Rattle.agent_core.specs.declared.node.Node.{Node}
 use Rattle.agent_core.specs.declared.node.Node.TheVariants as nodes
-use Rattle.agent_core.specs.Agents.{Agent, Ask, agent_of, agent_at}
+use Rattle.agent_core.specs.Agents.{Agent, Constraint, agent_of, agent_at}
 use Rattle.agent_core.specs.Programs.{CoreProgram}
 use Rattle.agent_core.specs.Facts.{IsProgram}
 use Rattle.agent_core.specs.Listing.{size}
@@ -25,12 +25,12 @@ module _ (p : CoreProgram) (is : IsProgram p) (n : ℕ) where
   body-behind node m (inr e) found = (facts (nodes.Next m) (found ∙ ap Some e)).follow
 
   module _ (t : ℕ) (b : List ℕ) (path : List Guard) where
-    pub then-below : (c : Ask) (m : ℕ) → slice_get p.nodes n ≡ Some (nodes.Then c m) → below t b path n ≡ below t b (path ++ Asks b c ∷ []) m
+    pub then-below : (c : Constraint) (m : ℕ) → slice_get p.nodes n ≡ Some (nodes.Then c m) → below t b path n ≡ below t b (path ++ Asks b c ∷ []) m
     then-below c m found =
         let f = facts (nodes.Then c m) found in
         ap (λ (a : Agent). leaves_of t a n b path) f.tree ∙ ap (λ (k : ℕ). leaves_of t (agent_at p.nodes m) k b (path ++ Asks b c ∷ [])) (sym f.follow)
 
-    pub else-below : (c : Ask) (m : ℕ) → slice_get p.nodes n ≡ Some (nodes.Else c m) → below t b path n ≡ below t b (path ++ Denies b c ∷ []) m
+    pub else-below : (c : Constraint) (m : ℕ) → slice_get p.nodes n ≡ Some (nodes.Else c m) → below t b path n ≡ below t b (path ++ Denies b c ∷ []) m
     else-below c m found =
         let f = facts (nodes.Else c m) found in
         ap (λ (a : Agent). leaves_of t a n b path) f.tree ∙ ap (λ (k : ℕ). leaves_of t (agent_at p.nodes m) k b (path ++ Denies b c ∷ [])) (sym f.follow)

@@ -14,7 +14,7 @@ use Rattle.agent_core.specs.declared.node.Closure.{Closure}
 use Rattle.agent_core.specs.declared.node.CellDecl.{CellDecl}
 use Rattle.agent_core.specs.declared.node.Node.{Node}
 use Rattle.agent_core.specs.declared.node.Node.TheVariants as nodes
-use Rattle.agent_core.specs.Agents.{Agent, Ask, Skip, Tell, Then, Else, Par, New, Hence, Next, agent_at}
+use Rattle.agent_core.specs.Agents.{Agent, Constraint, Skip, Tell, Then, Else, Par, New, Hence, Next, agent_at}
 use Rattle.agent_core.specs.Programs.{CoreProgram}
 use Rattle.agent_core.specs.Facts.{IsProgram}
 use Rattle.agent_core.specs.Listing.{size}
@@ -32,14 +32,14 @@ ask_names xs = map (λ x. x.name) xs
 
 -- ONE CONSTRAINT
 
-ask-speaks : (p : CoreProgram) (b : List ℕ) (ask : Ask) (i : ℕ) (x : ℕ × Token) → i < length ask → TokenFits p b (get_or ask i x) → Contains (ask_names (ask_named p b ask)) (name_of p b (get_or ask i x).0)
+ask-speaks : (p : CoreProgram) (b : List ℕ) (ask : Constraint) (i : ℕ) (x : ℕ × Token) → i < length ask → TokenFits p b (get_or ask i x) → Contains (ask_names (ask_named p b ask)) (name_of p b (get_or ask i x).0)
 ask-speaks p b ask i x lt f = Contains-map (λ (y : Named). y.name) (ask_named p b ask) (record { name = name_of p b (get_or ask i x).0; cell = f.decl.cell; token = (get_or ask i x).1 }) (go ask i lt f)
   where
     first : (y : ℕ × Token) (d : CellDecl) (rest : List Named) → slice_get p.cells y.0 ≡ Some d → Contains (token_named p b y.0 y.1 (slice_get p.cells y.0) ++ rest) (record { name = name_of p b y.0; cell = d.cell; token = y.1 })
     first y d rest e =
         subst (λ (o : Option CellDecl). Contains (token_named p b y.0 y.1 o ++ rest) (record { name = name_of p b y.0; cell = d.cell; token = y.1 })) (sym e) (0, omega arith, refl)
 
-    go : (ask : Ask) (i : ℕ) → i < length ask → (f : TokenFits p b (get_or ask i x)) → Contains (ask_named p b ask) (record { name = name_of p b (get_or ask i x).0; cell = f.decl.cell; token = (get_or ask i x).1 })
+    go : (ask : Constraint) (i : ℕ) → i < length ask → (f : TokenFits p b (get_or ask i x)) → Contains (ask_named p b ask) (record { name = name_of p b (get_or ask i x).0; cell = f.decl.cell; token = (get_or ask i x).1 })
     go [] i lt f = absurd (omega arith)
     go (y ∷ ask) zero lt f = first y f.decl (ask_named p b ask) f.found
     go (y ∷ ask) (suc i) lt f = Contains-append_right (token_named p b y.0 y.1 (slice_get p.cells y.0)) (ask_named p b ask) _ (go ask i (omega arith) f)
@@ -52,18 +52,18 @@ local-name p b x f le = go (nat_lt x.0 p.declared) refl f.named
     go false e named = record { node = _; births = _; is = refl; decl = f.decl; named = named }
 
 module _ (p : CoreProgram) (b : List ℕ) where
-  pub asked-none : (ask : Ask) (names : List CellName) → AddsAsked p b ask names names
+  pub asked-none : (ask : Constraint) (names : List CellName) → AddsAsked p b ask names names
   asked-none ask names = All-weaker (Contains names) (λ n. Contains names n ⊎ IsAskedBy p b ask n) (λ n h. inl h) names (All-contains_itself names)
 
   -- one more name of the constraint is inserted
-  pub asked-next : (ask items : Ask) (i : ℕ) (x : ℕ × Token) (before mid after : List CellName) (n : CellName) → items ≡ ask → i < length items → TokenFits p b (get_or items i x) → p.declared ≤ (get_or items i x).0
+  pub asked-next : (ask items : Constraint) (i : ℕ) (x : ℕ × Token) (before mid after : List CellName) (n : CellName) → items ≡ ask → i < length items → TokenFits p b (get_or items i x) → p.declared ≤ (get_or items i x).0
       → n ≡ name_of p b (get_or items i x).0 → AddsAsked p b ask before mid → after ≡ insert_key name_cmp mid n → AddsAsked p b ask before after
   asked-next ask items i x before mid after n same lt f le is h e =
       let P : CellName → Type 0 = λ q. Contains before q ⊎ IsAskedBy p b ask q in
       let here : IsAskedBy p b ask n = record {
         local = subst (IsLocal p) (sym is) (local-name p b (get_or items i x) f le);
         asked =
-            subst (λ (c : Ask). Contains (ask_names (ask_named p b c)) n) same
+            subst (λ (c : Constraint). Contains (ask_names (ask_named p b c)) n) same
             (subst (Contains (ask_names (ask_named p b items))) (sym is) (ask-speaks p b items i x lt f));
       } in
       subst (All P) (sym e) (All-insert_key name_cmp n P mid h (inr here))
@@ -123,7 +123,7 @@ module _ (p : CoreProgram) (is : IsProgram p) (t n : ℕ) (b : List ℕ) where
   pub spoken-none : (names : List CellName) → AddsSpoken p t n b names names
   spoken-none names = All-weaker (Contains names) (λ q. Contains names q ⊎ Spoken n b q) (λ q h. inl h) names (All-contains_itself names)
 
-  pub spoken-tell : (c : Ask) → slice_get p.nodes n ≡ Some (nodes.Tell c) → (before after : List CellName) → AddsAsked p b c before after → AddsSpoken p t n b before after
+  pub spoken-tell : (c : Constraint) → slice_get p.nodes n ≡ Some (nodes.Tell c) → (before after : List CellName) → AddsAsked p b c before after → AddsSpoken p t n b before after
   spoken-tell c found before after h = All-weaker (λ q. Contains before q ⊎ IsAskedBy p b c q) (λ q. Contains before q ⊎ Spoken n b q) go after h
     where
       go : (q : CellName) → Contains before q ⊎ IsAskedBy p b c q → Contains before q ⊎ Spoken n b q
@@ -134,7 +134,7 @@ module _ (p : CoreProgram) (is : IsProgram p) (t n : ℕ) (b : List ℕ) where
       })
 
   -- names below a part, after those of a constraint above it
-  spoken-guard : (c : Ask) (m : ℕ) (mk : core.Guard) → (guard_named p mk).ask ≡ ask_named p b c → ((path : List core.Guard) → below p is n t b path n ≡ below p is n t b (path ++ mk ∷ []) m)
+  spoken-guard : (c : Constraint) (m : ℕ) (mk : core.Guard) → (guard_named p mk).ask ≡ ask_named p b c → ((path : List core.Guard) → below p is n t b path n ≡ below p is n t b (path ++ mk ∷ []) m)
       → (before mid after : List CellName) → AddsAsked p b c before mid → AddsSpoken p t m b mid after → AddsSpoken p t n b before after
   spoken-guard c m mk asks same before mid after h h' = All-weaker (λ q. Contains mid q ⊎ Spoken m b q) (λ q. Contains before q ⊎ Spoken n b q) go after h'
     where
@@ -154,7 +154,7 @@ module _ (p : CoreProgram) (is : IsProgram p) (t n : ℕ) (b : List ℕ) where
       go q (inl i) = elim (All-contains (λ x. Contains before x ⊎ IsAskedBy p b c x) mid q h i) [ inl j ↦ inl j | inr j ↦ inr (asked q j) ]
       go q (inr i) = inr (λ path. let s = i (path ++ mk ∷ []) in record { local = s.local; spoken = below-it q path s.spoken })
 
-  pub spoken-body : (d : Node) (c : Ask) (m : ℕ) → (d ≡ nodes.Then c m) ⊎ (d ≡ nodes.Else c m) → slice_get p.nodes n ≡ Some d
+  pub spoken-body : (d : Node) (c : Constraint) (m : ℕ) → (d ≡ nodes.Then c m) ⊎ (d ≡ nodes.Else c m) → slice_get p.nodes n ≡ Some d
       → (before mid after : List CellName) → AddsAsked p b c before mid → AddsSpoken p t m b mid after → AddsSpoken p t n b before after
   spoken-body d c m (inl e) found = spoken-guard c m (core.Asks b c) refl (λ path. then-below p is n t b path c m (found ∙ ap Some e))
   spoken-body d c m (inr e) found = spoken-guard c m (core.Denies b c) refl (λ path. else-below p is n t b path c m (found ∙ ap Some e))

@@ -3,7 +3,7 @@ use Rattle.std.specs.Prelude.{◌≡◌, ◌⊎◌, ℕ, zero, suc, ◌<◌, Lis
 use Rattle.token_system.specs.declared.name.CellName.{CellName}
 use Rattle.token_system.specs.declared.name.CellName.TheVariants.{Declared, Local}
 use Rattle.agent_core.specs.declared.node.CellDecl.{CellDecl}
-use Rattle.agent_core.specs.Agents.{Ask, agent_at}
+use Rattle.agent_core.specs.Agents.{Constraint, agent_at}
 use Rattle.agent_core.specs.Programs.{CoreProgram}
 use Rattle.agent_core.specs.Facts.{IsProgram}
 use Rattle.agent_core.specs.Leaves as core
@@ -28,12 +28,12 @@ pub record IsSpokenBy (p : CoreProgram) (ls : List Leaf) (n : CellName) : Type 0
   pub spoken : Contains (flat_map names_of ls) n
 
 -- the name is that of a local cell, and the constraint speaks of it
-pub record IsAskedBy (p : CoreProgram) (b : List ℕ) (ask : Ask) (n : CellName) : Type 0 where
+pub record IsAskedBy (p : CoreProgram) (b : List ℕ) (ask : Constraint) (n : CellName) : Type 0 where
   pub local : IsLocal p n
   pub asked : Contains (map (λ x. x.name) (ask_named p b ask)) n
 
 -- each name is one from before, or the constraint speaks of it
-abbrev pub AddsAsked : CoreProgram → List ℕ → Ask → List CellName → List CellName → Type 0
+abbrev pub AddsAsked : CoreProgram → List ℕ → Constraint → List CellName → List CellName → Type 0
 AddsAsked p b ask before after = All (λ n. Contains before n ⊎ IsAskedBy p b ask n) after
 
 -- each name is one from before, or a leaf of node n speaks of it, which is started at t under births b, whatever path leads to the node

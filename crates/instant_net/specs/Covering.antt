@@ -4,7 +4,7 @@ use Rattle.token_system.specs.declared.cell.Token.{Token}
 use Rattle.token_system.specs.declared.name.CellName.{CellName}
 use Rattle.agent_core.specs.declared.node.Closure.{Closure}
 use Rattle.agent_core.specs.Programs.{CoreProgram}
-use Rattle.agent_core.specs.Agents.{Agent, Ask, Skip, Tell, Then, Else, Par, New, Hence, Next, agent_at}
+use Rattle.agent_core.specs.Agents.{Agent, Constraint, Skip, Tell, Then, Else, Par, New, Hence, Next, agent_at}
 use Rattle.agent_core.specs.Names.{name_of}
 
 -- the token's cell is a declared one, or its name under the births is one of these
@@ -12,7 +12,7 @@ abbrev pub TokenCovered : CoreProgram → List ℕ → List CellName → (ℕ ×
 TokenCovered p b names x = p.declared ≤ x.0 → Contains names (name_of p b x.0)
 
 -- so is each token's of the constraint
-abbrev pub AskCovered : CoreProgram → List ℕ → List CellName → Ask → Type 0
+abbrev pub AskCovered : CoreProgram → List ℕ → List CellName → Constraint → Type 0
 AskCovered p b names ask = All (TokenCovered p b names) ask
 
 -- and of each constraint of the agent within the instant, where the agent is started at t under these births
@@ -35,7 +35,7 @@ abbrev pub Keeps : List CellName → List CellName → Type 0
 Keeps before after = (n : CellName) → Contains before n → Contains after n
 
 -- the names from before are there, and those that the constraint needs
-pub record CoversAsk (p : CoreProgram) (b : List ℕ) (ask : Ask) (before after : List CellName) : Type 0 where
+pub record CoversAsk (p : CoreProgram) (b : List ℕ) (ask : Constraint) (before after : List CellName) : Type 0 where
   pub keeps : Keeps before after
   pub covers : AskCovered p b after ask
 

@@ -3,7 +3,7 @@ use Rattle.std.specs.Prelude.{ℕ, suc, ◌+◌, true, false, List, [], ◌∷�
 use Rattle.token_system.specs.declared.cell.Token.{Token}
 use Rattle.agent_core.specs.declared.node.Closure.{Closure}
 use Rattle.agent_core.specs.declared.node.CellDecl.{CellDecl}
-use Rattle.agent_core.specs.Agents.{Agent, Ask, Skip, Tell, Then, Else, Par, New, Hence, Next}
+use Rattle.agent_core.specs.Agents.{Agent, Constraint, Skip, Tell, Then, Else, Par, New, Hence, Next}
 use Rattle.agent_core.specs.Programs.{CoreProgram}
 use Rattle.agent_core.specs.Names.{name_of}
 use Rattle.agent_core.specs.Closures.{closure}
@@ -16,7 +16,7 @@ token_named p b cell t None = []
 token_named p b cell t (Some d) = record { name = name_of p b cell; cell = d.cell; token = t } ∷ []
 
 -- the constraint under births, with its cells by name
-abbrev pub ask_named : CoreProgram → List ℕ → Ask → List Named
+abbrev pub ask_named : CoreProgram → List ℕ → Constraint → List Named
 ask_named p b [] = []
 ask_named p b (x ∷ ask) = token_named p b x.0 x.1 (slice_get p.cells x.0) ++ ask_named p b ask
 

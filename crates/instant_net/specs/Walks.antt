@@ -3,7 +3,7 @@ use Rattle.std.specs.Prelude.{◌≡◌, ℕ, suc, ◌+◌, ◌<◌, Bool, All, 
 use Rattle.token_system.specs.declared.cell.Token.{Token}
 use Rattle.token_system.specs.declared.name.CellName.{CellName}
 use Rattle.token_system.specs.declared.name.CellName.TheVariants.{Declared}
-use Rattle.agent_core.specs.Agents.{Ask, agent_at}
+use Rattle.agent_core.specs.Agents.{Constraint, agent_at}
 use Rattle.agent_core.specs.Programs.{CoreProgram}
 use Rattle.agent_core.specs.Leaves as core
 use Rattle.agent_core.specs.declared.node.CellDecl.{CellDecl}
@@ -27,7 +27,7 @@ pub record IsNamed (p : CoreProgram) (c : NetCell) : Type 0 where
   pub cell : c.cell ≡ decl.cell
 
 -- the atoms are those of the constraint under the births
-pub record AreAtomsOf (p : CoreProgram) (cells : List NetCell) (b : List ℕ) (ask : Ask) (atoms : List Atom) : Type 0 where
+pub record AreAtomsOf (p : CoreProgram) (cells : List NetCell) (b : List ℕ) (ask : Constraint) (atoms : List Atom) : Type 0 where
   pub same : named cells atoms ≡ ask_named p b ask
   pub fit : All (AtomFits cells) atoms
 

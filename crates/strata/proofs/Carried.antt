@@ -3,7 +3,7 @@ use Rattle.std.proofs.Common.{◌≡◌, ℕ, zero, suc, ◌+◌, Bool, true, fa
 use Rattle.std.specs.Prelude.{All, Contains}
 use Rattle.agent_core.specs.declared.node.Node.{Node}
 use Rattle.agent_core.specs.Programs.{CoreProgram}
-use Rattle.agent_core.specs.Agents.{Agent, Ask, Skip, Tell, Then, Else, Par, New, Hence, Next, agent_at}
+use Rattle.agent_core.specs.Agents.{Agent, Constraint, Skip, Tell, Then, Else, Par, New, Hence, Next, agent_at}
 use Rattle.agent_core.specs.Listing.{size, listing, IsListing}
 use Rattle.agent_core.specs.Strata.{Asked, Edge, asked_by, agent_edges, edges, In, Each}
 use Rattle.agent_core.specs.Strata as strata
@@ -44,7 +44,7 @@ module _ (p : CoreProgram) where
   path_on : (n m : ℕ) (path : List Asked) → Contains (arcs p) (arc (cells + n) (cells + m) false) → Each (λ g. LeadsOn g (cells + n)) path → Each (λ g. LeadsOn g (cells + m)) path
   path_on n m path i h = each-map (λ g. LeadsOn g (cells + n)) (λ g. LeadsOn g (cells + m)) (λ g l. (l.0, l.1, further l.0 (cells + n) (cells + m) false i l.2)) path h
 
-  asked_on : (n m : ℕ) (strict : Bool) (c : Ask) → Arcs (map (λ x. arc x.0 (cells + m) strict) c) → Each (λ g. LeadsOn g (cells + m)) (asked_by n strict c)
+  asked_on : (n m : ℕ) (strict : Bool) (c : Constraint) → Arcs (map (λ x. arc x.0 (cells + m) strict) c) → Each (λ g. LeadsOn g (cells + m)) (asked_by n strict c)
   asked_on n m strict [] h = tt
   asked_on n m strict (x ∷ c) h = ((cells + m, h.0, (0, refl)), asked_on n m strict c h.1)
 
@@ -52,7 +52,7 @@ module _ (p : CoreProgram) where
   one_told n d [] i h = tt
   one_told n d (g ∷ path) i h = let l = h.0 in ((l.0, l.1, further l.0 (cells + n) d false i l.2), one_told n d path i h.1)
 
-  told_on : (n : ℕ) (c : Ask) (path : List Asked) → Arcs (map (λ x. arc (cells + n) x.0 false) c) → Each (λ g. LeadsOn g (cells + n)) path → Each IsCarried (agent_edges n (Tell c) path)
+  told_on : (n : ℕ) (c : Constraint) (path : List Asked) → Arcs (map (λ x. arc (cells + n) x.0 false) c) → Each (λ g. LeadsOn g (cells + n)) path → Each IsCarried (agent_edges n (Tell c) path)
   told_on n [] path i h = tt
   told_on n (x ∷ c) path i h = join IsCarried (map (λ g. edge_of g n x.0) path) (agent_edges n (Tell c) path) (one_told n x.0 path i.0 h) (told_on n c path i.1 h)
 

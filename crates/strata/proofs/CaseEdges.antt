@@ -2,7 +2,7 @@
 use Rattle.std.proofs.Common.{◌≡◌, inl, inr, ℕ, suc, ◌+◌, ◌<◌, Bool, true, false, List, [], ◌∷◌, ◌++◌, length, map, refl, sym, ap, subst, arith}
 use Rattle.std.specs.List.{range_with_len}
 use Rattle.agent_core.specs.Programs.{CoreProgram}
-use Rattle.agent_core.specs.Agents.{Agent, Ask, Skip, Tell, Then, Else, Par, New, Hence, Next, agent_at}
+use Rattle.agent_core.specs.Agents.{Agent, Constraint, Skip, Tell, Then, Else, Par, New, Hence, Next, agent_at}
 use Rattle.agent_core.specs.Listing.{size}
 use Rattle.agent_core.specs.Facts.{IsProgram}
 use Rattle.agent_core.specs.Strata.{Asked, Edge, asked_by, agent_edges, edges, tells_of, cases_at, cases, In, Each}
@@ -43,17 +43,17 @@ case-edge p is e i =
 module _ (p : CoreProgram) where
   -- where an else asks, it is a node of the program, and what is told below the agent is told below it
   abbrev ElseAbove : ℕ → Agent → Asked → Type 0
-  ElseAbove n a g = g.strict ≡ true → (c : Ask) × (b : Agent) × (agent_at p.nodes g.node ≡ Else c b) × (g.node < length p.nodes) × In g.cell (map (λ x. x.0) c)
+  ElseAbove n a g = g.strict ≡ true → (c : Constraint) × (b : Agent) × (agent_at p.nodes g.node ≡ Else c b) × (g.node < length p.nodes) × In g.cell (map (λ x. x.0) c)
       × ((t : ℕ × ℕ) → In t (tells_of n a) → In t (tells_of (suc g.node) b))
 
   narrower : (n m : ℕ) (a b : Agent) (path : List Asked) → ((t : ℕ × ℕ) → In t (tells_of m b) → In t (tells_of n a)) → Each (ElseAbove n a) path → Each (ElseAbove m b) path
   narrower n m a b path sub h = each-map (ElseAbove n a) (ElseAbove m b) (λ g f s. let e = f s in (e.0, e.1, e.2, e.3, e.4, λ t i. e.5 t (sub t i))) path h
 
-  then_above : (n m : ℕ) (a : Agent) (c : Ask) → Each (ElseAbove m a) (asked_by n false c)
+  then_above : (n m : ℕ) (a : Agent) (c : Constraint) → Each (ElseAbove m a) (asked_by n false c)
   then_above n m a [] = tt
   then_above n m a (x ∷ c) = (λ s. absurd (cc), then_above n m a c)
 
-  else_above : (n : ℕ) (a : Agent) (all c : Ask) → agent_at p.nodes n ≡ Else all a → n < length p.nodes → ((x : ℕ) → In x (map (λ y. y.0) c) → In x (map (λ y. y.0) all)) → Each (ElseAbove (suc n) a) (asked_by n true c)
+  else_above : (n : ℕ) (a : Agent) (all c : Constraint) → agent_at p.nodes n ≡ Else all a → n < length p.nodes → ((x : ℕ) → In x (map (λ y. y.0) c) → In x (map (λ y. y.0) all)) → Each (ElseAbove (suc n) a) (asked_by n true c)
   else_above n a all [] e lt sub = tt
   else_above n a all (x ∷ c) e lt sub = (λ s. (all, a, e, lt, sub x.0 (inl refl), λ t i. i), else_above n a all c e lt (λ y i. sub y (inr i)))
 
@@ -61,7 +61,7 @@ module _ (p : CoreProgram) where
   IsCase e = e.guard.strict ≡ true → In e (cases p)
 
   -- an else node with an asked cell and a told one
-  makes_case : (n : ℕ) (c : Ask) (b : Agent) (cell : ℕ) (t : ℕ × ℕ) → agent_at p.nodes n ≡ Else c b → n < length p.nodes → In cell (map (λ x. x.0) c) → In t (tells_of (suc n) b) → In (edge_of (else_asked n cell) t.0 t.1) (cases p)
+  makes_case : (n : ℕ) (c : Constraint) (b : Agent) (cell : ℕ) (t : ℕ × ℕ) → agent_at p.nodes n ≡ Else c b → n < length p.nodes → In cell (map (λ x. x.0) c) → In t (tells_of (suc n) b) → In (edge_of (else_asked n cell) t.0 t.1) (cases p)
   makes_case n c b cell t e lt i j =
       let g = map_in (λ x. x.0) cell c i in
       let one : In (edge_of (else_asked n cell) t.0 t.1) (map (λ x. edge_of (else_asked n x.0) t.0 t.1) c) =
@@ -79,11 +79,11 @@ module _ (p : CoreProgram) where
     one_cased n d a path i h.1,
   )
 
-  tell_cased : (n : ℕ) (all c : Ask) (path : List Asked) → ((x : ℕ) → In x (map (λ y. y.0) c) → In (n, x) (tells_of n (Tell all))) → Each (ElseAbove n (Tell all)) path → Each IsCase (agent_edges n (Tell c) path)
+  tell_cased : (n : ℕ) (all c : Constraint) (path : List Asked) → ((x : ℕ) → In x (map (λ y. y.0) c) → In (n, x) (tells_of n (Tell all))) → Each (ElseAbove n (Tell all)) path → Each IsCase (agent_edges n (Tell c) path)
   tell_cased n all [] path sub h = tt
   tell_cased n all (x ∷ c) path sub h = join IsCase (map (λ g. edge_of g n x.0) path) (agent_edges n (Tell c) path) (one_cased n x.0 (Tell all) path (sub x.0 (inl refl)) h) (tell_cased n all c path (λ y i. sub y (inr i)) h)
 
-  told_at : (n : ℕ) (c : Ask) (x : ℕ) → In x (map (λ y. y.0) c) → In (n, x) (tells_of n (Tell c))
+  told_at : (n : ℕ) (c : Constraint) (x : ℕ) → In x (map (λ y. y.0) c) → In (n, x) (tells_of n (Tell c))
   told_at n [] x i = absurd i
   told_at n (y ∷ c) x (inl e) = inl (ap (λ (k : ℕ). (n, k)) e)
   told_at n (y ∷ c) x (inr i) = inr (told_at n c x i)

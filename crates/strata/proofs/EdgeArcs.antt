@@ -3,7 +3,7 @@ use Rattle.std.proofs.Common.{◌≡◌, ℕ, zero, suc, ◌+◌, ◌<◌, Bool,
 use Rattle.std.specs.Prelude.{All, slice_index}
 use Rattle.std.proofs.lemmas.List.FromFn.{length-map-range_with_len}
 use Rattle.agent_core.specs.Programs.{CoreProgram}
-use Rattle.agent_core.specs.Agents.{Agent, Ask, Skip, Tell, Then, Else, Par, New, Hence, Next, agent_at}
+use Rattle.agent_core.specs.Agents.{Agent, Constraint, Skip, Tell, Then, Else, Par, New, Hence, Next, agent_at}
 use Rattle.agent_core.specs.Listing.{size}
 use Rattle.agent_core.specs.Facts.{Scoped, IsProgram}
 use Rattle.agent_core.specs.Strata.{Asked, Edge, asked_by, agent_edges, edges, In, Each, Stratifies, HasNoTable}
@@ -60,7 +60,7 @@ module _ (p : CoreProgram) where
   abbrev AskedIn : Asked → Type 0
   AskedIn g = g.cell < length p.cells
 
-  asks_in : (n : ℕ) (strict : Bool) (c : Ask) → AskInside (length p.cells) c → Each AskedIn (asked_by n strict c)
+  asks_in : (n : ℕ) (strict : Bool) (c : Constraint) → AskInside (length p.cells) c → Each AskedIn (asked_by n strict c)
   asks_in n strict [] h = tt
   asks_in n strict (x ∷ c) h = (h.0, asks_in n strict c h.1)
 
@@ -68,7 +68,7 @@ module _ (p : CoreProgram) where
   one_in n d [] lt h = tt
   one_in n d (g ∷ path) lt h = ((h.0, lt), one_in n d path lt h.1)
 
-  tell_in : (n : ℕ) (c : Ask) (path : List Asked) → AskInside (length p.cells) c → Each AskedIn path → Each IsIn (agent_edges n (Tell c) path)
+  tell_in : (n : ℕ) (c : Constraint) (path : List Asked) → AskInside (length p.cells) c → Each AskedIn path → Each IsIn (agent_edges n (Tell c) path)
   tell_in n [] path h g = tt
   tell_in n (x ∷ c) path h g = join IsIn (map (λ g. edge_of g n x.0) path) (agent_edges n (Tell c) path) (one_in n x.0 path h.0 g) (tell_in n c path h.1 g)
 

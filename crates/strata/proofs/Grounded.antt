@@ -5,7 +5,7 @@ use Rattle.std.proofs.lemmas.Option.{slice_get_within}
 use Rattle.agent_core.specs.declared.node.Node.{Node}
 use Rattle.agent_core.specs.declared.node.Node.TheVariants as nodes
 use Rattle.agent_core.specs.Programs.{CoreProgram}
-use Rattle.agent_core.specs.Agents.{Agent, Ask, Skip, Tell, Then, Else, Par, New, Hence, Next, agent_at}
+use Rattle.agent_core.specs.Agents.{Agent, Constraint, Skip, Tell, Then, Else, Par, New, Hence, Next, agent_at}
 use Rattle.agent_core.specs.Listing.{size}
 use Rattle.agent_core.specs.Facts.{IsProgram}
 use Rattle.agent_core.specs.Strata.{Asked, Edge, asked_by, edges, tells_of, In, Each}
@@ -58,11 +58,11 @@ module _ (p : CoreProgram) where
   abbrev cells : ℕ
   cells = length p.cells
 
-  told_arcs : (n : ℕ) (c : Ask) → n < length p.nodes → AskInside cells c → ((t : ℕ × ℕ) → In t (map (λ x. (n, x.0)) c) → In t (tells p n)) → Each (Grounded p) (map (λ x. arc (cells + n) x.0 false) c)
+  told_arcs : (n : ℕ) (c : Constraint) → n < length p.nodes → AskInside cells c → ((t : ℕ × ℕ) → In t (map (λ x. (n, x.0)) c) → In t (tells p n)) → Each (Grounded p) (map (λ x. arc (cells + n) x.0 false) c)
   told_arcs n [] lt is sub = tt
   told_arcs n (x ∷ c) lt is sub = (inl (record { from = n; told = x.0; is = refl; node = lt; cell = is.0; below = (n, sub (n, x.0) (inl refl)) }), told_arcs n c lt is.1 (λ t i. sub t (inr i)))
 
-  ask_arcs : (m : ℕ) (strict : Bool) (c : Ask) → m < length p.nodes → AskInside cells c
+  ask_arcs : (m : ℕ) (strict : Bool) (c : Constraint) → m < length p.nodes → AskInside cells c
       → ((x : ℕ) → In x (map (λ y. y.0) c) → (t : ℕ × ℕ) → In t (tells p m) → (e : Edge) × In e (edges p) × (e.guard.cell ≡ x) × (e.guard.strict ≡ strict) × (e.told ≡ t.1))
       → Each (Grounded p) (map (λ x. arc x.0 (cells + m) strict) c)
   ask_arcs m strict [] lt is makes = tt

@@ -8,7 +8,7 @@ use Rattle.token_system.specs.declared.cell.Token.{Token}
 use Rattle.agent_core.specs.declared.node.Node.{Node}
 use Rattle.agent_core.specs.declared.node.Node.TheVariants as nodes
 use Rattle.agent_core.specs.Programs.{CoreProgram}
-use Rattle.agent_core.specs.Agents.{Agent, Ask, Tell, Else, agent_of, agent_at}
+use Rattle.agent_core.specs.Agents.{Agent, Constraint, Tell, Else, agent_of, agent_at}
 use Rattle.agent_core.specs.Listing.{size, IsListing}
 use Rattle.agent_core.specs.Strata.{Edge, Each, tells_of, cases_at, cases}
 use Rattle.agent_core.proofs.Parts.{IsPart}
@@ -63,18 +63,18 @@ module _ {X : Type 0} (test : X → Bool) where
 
 -- AMONG THE CELLS OF CONSTRAINTS
 
-module _ (test : Case → Bool) (xs : Ask) (i : ℕ) (d : ℕ × Token) (lt : i < length xs) where
+module _ (test : Case → Bool) (xs : Constraint) (i : ℕ) (d : ℕ × Token) (lt : i < length xs) where
   abbrev next : ℕ
   next = (slice_index_or xs i d).0
 
-  pub told-hit : (ask : Ask) (c : Case) → Some c ≡ first_that test (pairs_with ask next) → first_that test (pairs ask (map (λ x. x.0) (drop i xs))) ≡ Some c
+  pub told-hit : (ask : Constraint) (c : Case) → Some c ≡ first_that test (pairs_with ask next) → first_that test (pairs ask (map (λ x. x.0) (drop i xs))) ≡ Some c
   told-hit ask c e =
-      at_drop_more (λ (s : Ask). first_that test (pairs ask (map (λ x. x.0) s))) xs i d lt
+      at_drop_more (λ (s : Constraint). first_that test (pairs ask (map (λ x. x.0) s))) xs i d lt
       ∙ first-some test (pairs_with ask next) (pairs ask (map (λ x. x.0) (drop (i + 1) xs))) c (sym e)
 
-  pub told-miss : (ask : Ask) → None ≡ first_that test (pairs_with ask next) → first_that test (pairs ask (map (λ x. x.0) (drop i xs))) ≡ first_that test (pairs ask (map (λ x. x.0) (drop (i + 1) xs)))
+  pub told-miss : (ask : Constraint) → None ≡ first_that test (pairs_with ask next) → first_that test (pairs ask (map (λ x. x.0) (drop i xs))) ≡ first_that test (pairs ask (map (λ x. x.0) (drop (i + 1) xs)))
   told-miss ask e =
-      at_drop_more (λ (s : Ask). first_that test (pairs ask (map (λ x. x.0) s))) xs i d lt
+      at_drop_more (λ (s : Constraint). first_that test (pairs ask (map (λ x. x.0) s))) xs i d lt
       ∙ first-none test (pairs_with ask next) (pairs ask (map (λ x. x.0) (drop (i + 1) xs))) (sym e)
 
 -- BELOW A NODE
@@ -87,13 +87,13 @@ pub program_read : (p : CoreProgram) (all : List Node) → all ≡ p.nodes → (
 program_read p all same n v node lt is e = (let l = ap length same in omega arith, subst (λ (ns : List Node). slice_get ns n ≡ Some node) same (node_read all n v node lt is e))
 
 abbrev pub HasOnePart : Node → ℕ → Type 0
-HasOnePart node body = ((ask : Ask) × (node ≡ nodes.Then ask body)) ⊎ (((ask : Ask) × (node ≡ nodes.Else ask body)) ⊎ ((cell : ℕ) × (node ≡ nodes.New cell body)))
+HasOnePart node body = ((ask : Constraint) × (node ≡ nodes.Then ask body)) ⊎ (((ask : Constraint) × (node ≡ nodes.Else ask body)) ⊎ ((cell : ℕ) × (node ≡ nodes.New cell body)))
 
-pairs-append : (ask : Ask) (xs ys : List ℕ) → pairs ask (xs ++ ys) ≡ pairs ask xs ++ pairs ask ys
+pairs-append : (ask : Constraint) (xs ys : List ℕ) → pairs ask (xs ++ ys) ≡ pairs ask xs ++ pairs ask ys
 pairs-append ask [] ys = refl
 pairs-append ask (x ∷ xs) ys = ap (λ (zs : List Case). pairs_with ask x ++ zs) (pairs-append ask xs ys) ∙ sym (append_assoc (pairs_with ask x) (pairs ask xs) (pairs ask ys))
 
-cells_of : (n : ℕ) (c : Ask) → map (λ x. x.1) (tells_of n (Tell c)) ≡ map (λ x. x.0) c
+cells_of : (n : ℕ) (c : Constraint) → map (λ x. x.1) (tells_of n (Tell c)) ≡ map (λ x. x.0) c
 cells_of n [] = refl
 cells_of n (x ∷ c) = ap (λ (xs : List ℕ). x.0 ∷ xs) (cells_of n c)
 
@@ -101,16 +101,16 @@ module _ (all : List Node) (w : IsListing all) (n : ℕ) where
   at_node : (node : Node) → slice_get all n ≡ Some node → told_below all n ≡ map (λ x. x.1) (tells_of n (agent_of (agent_at all) node))
   at_node node g = ap (λ (a : Agent). map (λ x. x.1) (tells_of n a)) (node_of_listing all w n node g).tree
 
-  pub below-tell : (c : Ask) → slice_get all n ≡ Some (nodes.Tell c) → told_below all n ≡ map (λ x. x.0) c
+  pub below-tell : (c : Constraint) → slice_get all n ≡ Some (nodes.Tell c) → told_below all n ≡ map (λ x. x.0) c
   below-tell c g = at_node (nodes.Tell c) g ∙ cells_of n c
 
   below_part : (body : ℕ) → body ≡ suc n → told_below all body ≡ map (λ x. x.1) (tells_of (suc n) (agent_at all body))
   below_part body e = ap (λ (m : ℕ). map (λ x. x.1) (tells_of m (agent_at all body))) e
 
-  below-then : (c : Ask) (body : ℕ) → slice_get all n ≡ Some (nodes.Then c body) → told_below all n ≡ told_below all body
+  below-then : (c : Constraint) (body : ℕ) → slice_get all n ≡ Some (nodes.Then c body) → told_below all n ≡ told_below all body
   below-then c body g = at_node (nodes.Then c body) g ∙ sym (below_part body (node_of_listing all w n (nodes.Then c body) g).follow)
 
-  below-else : (c : Ask) (body : ℕ) → slice_get all n ≡ Some (nodes.Else c body) → told_below all n ≡ told_below all body
+  below-else : (c : Constraint) (body : ℕ) → slice_get all n ≡ Some (nodes.Else c body) → told_below all n ≡ told_below all body
   below-else c body g = at_node (nodes.Else c body) g ∙ sym (below_part body (node_of_listing all w n (nodes.Else c body) g).follow)
 
   below-new : (cell body : ℕ) → slice_get all n ≡ Some (nodes.New cell body) → told_below all n ≡ told_below all body
@@ -149,10 +149,10 @@ module _ (all : List Node) (w : IsListing all) (n : ℕ) where
   below-none node g (inr (inl e)) = at_node node g ∙ ap (λ (x : Node). map (λ t. t.1) (tells_of n (agent_of (agent_at all) x))) e.1
   below-none node g (inr (inr e)) = at_node node g ∙ ap (λ (x : Node). map (λ t. t.1) (tells_of n (agent_of (agent_at all) x))) e.1
 
-pub par-hit : (test : Case → Bool) (ask : Ask) (xs ys : List ℕ) (c : Case) → Some c ≡ first_that test (pairs ask xs) → Some c ≡ first_that test (pairs ask (xs ++ ys))
+pub par-hit : (test : Case → Bool) (ask : Constraint) (xs ys : List ℕ) (c : Case) → Some c ≡ first_that test (pairs ask xs) → Some c ≡ first_that test (pairs ask (xs ++ ys))
 par-hit test ask xs ys c e = sym (first-some test (pairs ask xs) (pairs ask ys) c (sym e)) ∙ ap (first_that test) (sym (pairs-append ask xs ys))
 
-pub par-miss : (test : Case → Bool) (ask : Ask) (xs ys : List ℕ) → None ≡ first_that test (pairs ask xs) → first_that test (pairs ask ys) ≡ first_that test (pairs ask (xs ++ ys))
+pub par-miss : (test : Case → Bool) (ask : Constraint) (xs ys : List ℕ) → None ≡ first_that test (pairs ask xs) → first_that test (pairs ask ys) ≡ first_that test (pairs ask (xs ++ ys))
 par-miss test ask xs ys e = sym (first-none test (pairs ask xs) (pairs ask ys) (sym e)) ∙ ap (first_that test) (sym (pairs-append ask xs ys))
 
 -- AMONG THE CASES
@@ -184,7 +184,7 @@ module _ (test : Case → Bool) where
   abbrev Agrees : ℕ → List Edge → List Case → Type 0
   Agrees n es cs = ((c : Case) → first_that test cs ≡ Some c → (e : Edge) × (first_that on_edges es ≡ Some e) × (e.guard.node ≡ n) × (edge_case e ≡ c)) × (first_that test cs ≡ None → first_that on_edges es ≡ None)
 
-  agrees_with : (n m d : ℕ) (ask : Ask) (es : List Edge) (cs : List Case) → Agrees n es cs → Agrees n (map (λ g. else_case n m d g.0) ask ++ es) (pairs_with ask d ++ cs)
+  agrees_with : (n m d : ℕ) (ask : Constraint) (es : List Edge) (cs : List Case) → Agrees n es cs → Agrees n (map (λ g. else_case n m d g.0) ask ++ es) (pairs_with ask d ++ cs)
   agrees_with n m d [] es cs h = h
   agrees_with n m d (g ∷ ask) es cs h = go (test (record { guard = g.0; told = d })) (agrees_with n m d ask es cs h)
     where
@@ -198,18 +198,18 @@ module _ (test : Case → Bool) where
       go true later = (λ c h. (else_case n m d g.0, refl, refl, cc), λ h. absurd (cc))
       go false later = later
 
-  agrees : (n : ℕ) (ask : Ask) (ts : List (ℕ × ℕ)) → Agrees n (flat_map (λ x. map (λ g. else_case n x.0 x.1 g.0) ask) ts) (pairs ask (map (λ x. x.1) ts))
+  agrees : (n : ℕ) (ask : Constraint) (ts : List (ℕ × ℕ)) → Agrees n (flat_map (λ x. map (λ g. else_case n x.0 x.1 g.0) ask) ts) (pairs ask (map (λ x. x.1) ts))
   agrees n ask [] = (λ c h. absurd (cc), λ h. refl)
   agrees n ask (t ∷ ts) = agrees_with n t.0 t.1 ask (flat_map (λ x. map (λ g. else_case n x.0 x.1 g.0) ask) ts) (pairs ask (map (λ x. x.1) ts)) (agrees n ask ts)
 
   module _ (p : CoreProgram) (w : IsListing p.nodes) (n : ℕ) (lt : n < length p.nodes) where
-    else_agrees : (c : Ask) (body : ℕ) → slice_get p.nodes n ≡ Some (nodes.Else c body) → Agrees n (cases_at n (agent_at p.nodes n)) (pairs c (told_below p.nodes body))
+    else_agrees : (c : Constraint) (body : ℕ) → slice_get p.nodes n ≡ Some (nodes.Else c body) → Agrees n (cases_at n (agent_at p.nodes n)) (pairs c (told_below p.nodes body))
     else_agrees c body g =
         let at = node_of_listing p.nodes w n (nodes.Else c body) g in
         subst (λ (a : Agent). Agrees n (cases_at n a) (pairs c (told_below p.nodes body))) (sym at.tree)
         (subst (λ (m : ℕ). Agrees n (cases_at n (Else c (agent_at p.nodes body))) (pairs c (map (λ x. x.1) (tells_of m (agent_at p.nodes body))))) (sym at.follow) (agrees n c (tells_of (suc n) (agent_at p.nodes body))))
 
-    pub case-hit : (ask : Ask) (body : ℕ) (c : Case) → slice_get p.nodes n ≡ Some (nodes.Else ask body) → Some c ≡ first_that test (pairs ask (told_below p.nodes body)) → Some (n, c) ≡ named (first_that on_edges (cases_from p n))
+    pub case-hit : (ask : Constraint) (body : ℕ) (c : Case) → slice_get p.nodes n ≡ Some (nodes.Else ask body) → Some c ≡ first_that test (pairs ask (told_below p.nodes body)) → Some (n, c) ≡ named (first_that on_edges (cases_from p n))
     case-hit ask body c g h =
         let r = (else_agrees ask body g).0 c (sym h) in
         let found = ap (first_that on_edges) (cases_from-step p n lt) ∙ first-some on_edges (cases_at n (agent_at p.nodes n)) (cases_from p (n + 1)) r.0 r.1 in
@@ -219,14 +219,14 @@ module _ (test : Case → Bool) where
     miss : first_that on_edges (cases_at n (agent_at p.nodes n)) ≡ None → first_that on_edges (cases_from p n) ≡ first_that on_edges (cases_from p (n + 1))
     miss e = ap (first_that on_edges) (cases_from-step p n lt) ∙ first-none on_edges (cases_at n (agent_at p.nodes n)) (cases_from p (n + 1)) e
 
-    pub case-miss : (ask : Ask) (body : ℕ) → slice_get p.nodes n ≡ Some (nodes.Else ask body) → None ≡ first_that test (pairs ask (told_below p.nodes body)) → first_that on_edges (cases_from p n) ≡ first_that on_edges (cases_from p (n + 1))
+    pub case-miss : (ask : Constraint) (body : ℕ) → slice_get p.nodes n ≡ Some (nodes.Else ask body) → None ≡ first_that test (pairs ask (told_below p.nodes body)) → first_that on_edges (cases_from p n) ≡ first_that on_edges (cases_from p (n + 1))
     case-miss ask body g h = miss ((else_agrees ask body g).1 (sym h))
 
     -- a node that is no else has no cases
-    pub case-skip : (node : Node) → slice_get p.nodes n ≡ Some node → ((ask : Ask) (body : ℕ) → node ≡ nodes.Else ask body → ⊥) → first_that on_edges (cases_from p n) ≡ first_that on_edges (cases_from p (n + 1))
+    pub case-skip : (node : Node) → slice_get p.nodes n ≡ Some node → ((ask : Constraint) (body : ℕ) → node ≡ nodes.Else ask body → ⊥) → first_that on_edges (cases_from p n) ≡ first_that on_edges (cases_from p (n + 1))
     case-skip node g other = miss (ap (λ (a : Agent). first_that on_edges (cases_at n a)) (node_of_listing p.nodes w n node g).tree ∙ none node other)
       where
-        none : (node : Node) → ((ask : Ask) (body : ℕ) → node ≡ nodes.Else ask body → ⊥) → first_that on_edges (cases_at n (agent_of (agent_at p.nodes) node)) ≡ None
+        none : (node : Node) → ((ask : Constraint) (body : ℕ) → node ≡ nodes.Else ask body → ⊥) → first_that on_edges (cases_at n (agent_of (agent_at p.nodes) node)) ≡ None
         none nodes.Skip other = refl
         none (nodes.Tell c) other = refl
         none (nodes.Then c body) other = refl

@@ -3,7 +3,7 @@ use Rattle.std.proofs.Common.{◌≡◌, ◌⊎◌, inl, inr, ℕ, suc, ◌+◌,
 use Rattle.std.proofs.lemmas.Option.{slice_get_within}
 use Rattle.agent_core.specs.declared.node.Node.{Node}
 use Rattle.agent_core.specs.Programs.{CoreProgram}
-use Rattle.agent_core.specs.Agents.{Agent, Ask, Skip, Tell, Then, Else, Par, New, Hence, Next, agent_at}
+use Rattle.agent_core.specs.Agents.{Agent, Constraint, Skip, Tell, Then, Else, Par, New, Hence, Next, agent_at}
 use Rattle.agent_core.specs.Listing.{size, listing}
 use Rattle.agent_core.specs.Facts.{AreInScope, Scoped, IsProgram}
 use Rattle.agent_core.specs.Strata.{Asked, Edge, asked_by, agent_edges, edges, tells_of, In}
@@ -71,7 +71,7 @@ abbrev pub edge_of : Asked → ℕ → ℕ → Edge
 edge_of g m d = record { guard = g; tell = m; told = d }
 
 -- what is asked on the path and told below makes an edge
-told_edge : (n : ℕ) (c : Ask) (path : List Asked) (g : Asked) (t : ℕ × ℕ) → In g path → In t (map (λ x. (n, x.0)) c) → In (edge_of g t.0 t.1) (agent_edges n (Tell c) path)
+told_edge : (n : ℕ) (c : Constraint) (path : List Asked) (g : Asked) (t : ℕ × ℕ) → In g path → In t (map (λ x. (n, x.0)) c) → In (edge_of g t.0 t.1) (agent_edges n (Tell c) path)
 told_edge n [] path g t i j = absurd j
 told_edge n (x ∷ c) path g t i (inl e) =
     in_left (edge_of g t.0 t.1) (map (λ g. edge_of g n x.0) path) (agent_edges n (Tell c) path)
@@ -98,12 +98,12 @@ tell_edge (Par l r) n path g t i j =
 pub path_edge : (p : CoreProgram) (n : ℕ) (locals : List ℕ) (a : Agent) (u : Under p n locals a) (g : Asked) → In g u.path → (t : ℕ × ℕ) → In t (tells p n) → In (edge_of g t.0 t.1) (edges p)
 path_edge p n locals a u g i t j = u.among (edge_of g t.0 t.1) (tell_edge a n u.path g t i (subst (In t) (tells-at p n locals a u) j))
 
-pub asked_in : (n : ℕ) (strict : Bool) (c : Ask) (x : ℕ) → In x (map (λ y. y.0) c) → In (record { node = n; cell = x; strict = strict }) (asked_by n strict c)
+pub asked_in : (n : ℕ) (strict : Bool) (c : Constraint) (x : ℕ) → In x (map (λ y. y.0) c) → In (record { node = n; cell = x; strict = strict }) (asked_by n strict c)
 asked_in n strict [] x i = absurd i
 asked_in n strict (y ∷ c) x (inl e) = inl (ap (λ (k : ℕ). record { node = n; cell = k; strict = strict }) e)
 asked_in n strict (y ∷ c) x (inr i) = inr (asked_in n strict c x i)
 
 -- the cells of a constraint in scope are the program's
-pub scope-inside : (p : CoreProgram) (locals : List ℕ) (c : Ask) → AreInScope p locals c → AskInside (length p.cells) c
+pub scope-inside : (p : CoreProgram) (locals : List ℕ) (c : Constraint) → AreInScope p locals c → AskInside (length p.cells) c
 scope-inside p locals [] h = tt
 scope-inside p locals (x ∷ c) h = (slice_get_within p.cells x.0 h.0.decl h.0.found, scope-inside p locals c h.1)

@@ -3,7 +3,7 @@ use Rattle.std.specs.Prelude.{◌≡◌, ℕ, suc, ◌+◌, ◌<◌, Some, slice
 use Rattle.agent_core.specs.declared.node.Node.{Node}
 use Rattle.agent_core.specs.declared.node.Node.TheVariants as nodes
 use Rattle.agent_core.specs.Programs.{CoreProgram}
-use Rattle.agent_core.specs.Agents.{Ask}
+use Rattle.agent_core.specs.Agents.{Constraint}
 use Rattle.agent_core.specs.Strata.{Each}
 use Rattle.order_tables.specs.declared.arc.Arc.{Arc}
 
@@ -30,7 +30,7 @@ abbrev pub arcs : CoreProgram → List Arc
 arcs p = arcs_from (length p.cells) 0 p.nodes
 
 -- each cell of the constraint is one of so many
-abbrev pub AskInside : ℕ → Ask → Type 0
+abbrev pub AskInside : ℕ → Constraint → Type 0
 AskInside cells ask = Each (λ x. x.0 < cells) ask
 
 -- what the node names is one of so many cells and one of so many nodes

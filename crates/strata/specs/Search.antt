@@ -1,7 +1,7 @@
 -- The search for the first case in which a told cell reaches one that an else asks for. This project's own.
 use Rattle.std.specs.Prelude.{ℕ, ◌<◌, ◌≤◌, Bool, List, [], ◌∷◌, length, map, flat_map, Option, Some, None, if◌then◌else◌, Vec}
 use Rattle.std.specs.declared.alloc.Global.{Global}
-use Rattle.agent_core.specs.Agents.{Ask, agent_at}
+use Rattle.agent_core.specs.Agents.{Constraint, agent_at}
 use Rattle.agent_core.specs.declared.node.Node.{Node}
 use Rattle.agent_core.specs.Strata.{Edge, tells_of}
 use Rattle.order_tables.specs.Reaching.{list_at, has}
@@ -17,11 +17,11 @@ abbrev pub told_below : List Node → ℕ → List ℕ
 told_below all n = map (λ x. x.1) (tells_of n (agent_at all n))
 
 -- a told cell with each asked one
-abbrev pub pairs_with : Ask → ℕ → List Case
+abbrev pub pairs_with : Constraint → ℕ → List Case
 pairs_with ask told = map (λ g. record { guard = g.0; told = told }) ask
 
 -- each of the told cells with each asked one
-abbrev pub pairs : Ask → List ℕ → List Case
+abbrev pub pairs : Constraint → List ℕ → List Case
 pairs ask told = flat_map (pairs_with ask) told
 
 -- by the rows, the told cell reaches the asked one

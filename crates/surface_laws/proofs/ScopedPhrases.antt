@@ -8,7 +8,7 @@ use Rattle.token_system.specs.declared.cell.Kind.{Kind}
 use Rattle.token_system.specs.declared.cell.Kind.TheVariants as kind
 use Rattle.token_system.specs.declared.cell.Token as cell_token
 use Rattle.token_system.specs.declared.cell.Token.TheVariants as tokens
-use Rattle.agent_core.specs.Agents.{Ask}
+use Rattle.agent_core.specs.Agents.{Constraint}
 use Rattle.agent_core.specs.Programs.{CoreProgram}
 use Rattle.agent_core.specs.Facts.{IsInScope, AreInScope, IsConstraint}
 use Rattle.program_grammar.specs.Phrases.{TokenPhrase, AtLeast, AtMost, Exactly, ConstraintPhrase, One, Both, UnitPhrase, Tell, Braces, IfThen, IfElse, LocalSignal, LocalInt, AgentPhrase, Only, Par, ProgramPhrase, Runs, Signals, Ints}
@@ -57,7 +57,7 @@ token_scoped (Exactly x n) p locals names places at are fit e =
     let is = are.each x kind.Number (number_known (kind_of names x) at e) in
     (in_scope p locals (cell_of places x) kind.Number (tokens.AtLeast n) is fit, (in_scope p locals (cell_of places x) kind.Number (tokens.AtMost n) is fit, tt))
 
-scoped-append : (p : CoreProgram) (locals : List ℕ) (a b : Ask) → AreInScope p locals a → AreInScope p locals b → AreInScope p locals (a ++ b)
+scoped-append : (p : CoreProgram) (locals : List ℕ) (a b : Constraint) → AreInScope p locals a → AreInScope p locals b → AreInScope p locals (a ++ b)
 scoped-append p locals [] b x y = y
 scoped-append p locals (t ∷ a) b (h, x) y = (h, scoped-append p locals a b x y)
 

@@ -11,7 +11,7 @@ use Rattle.program_grammar.specs.declared.parts.Part.TheVariants.{OneUnit, MoreU
 use Rattle.program_grammar.specs.Events.{Event, Takes, Leaves, token_events, constraint_events, unit_events, agent_events, names_events, items_events, program_events}
 use Rattle.tdcc_reader.specs.declared.draft.DraftKind.{DraftKind}
 use Rattle.tdcc_reader.specs.declared.draft.DraftKind.TheVariants as kind
-use Rattle.tdcc_reader.specs.Trees.{Ask}
+use Rattle.agent_core.specs.Agents.{Constraint}
 use Rattle.tdcc_reader.specs.Surfaces.{Placed, placed, cell_of, Declared, signal, number, token_ask, ask_of, unit_cells, agent_cells, unit_tree, agent_tree, names_cells, names_scope, items_cells, items_scope, tree_from, declared_cells, program_cells}
 use Rattle.tdcc_reader.specs.Drafts.{Entry, entry, drafts}
 use Rattle.tdcc_reader.specs.Passes.{over_events}
@@ -30,12 +30,12 @@ over_acts (Takes p t ∷ es) at b = over_acts es (at + 1) (pass.takes_built p t 
 over_acts (Leaves p ∷ es) at b = over_acts es at (pass.leaves_built p b)
 
 -- between phrases nothing waits
-abbrev B : List Entry → Ask → List ℕ → List Placed → List Declared → ℕ → pass.Built
+abbrev B : List Entry → Constraint → List ℕ → List Placed → List Declared → ℕ → pass.Built
 B f a s n c d = pass.built f a s n c pass.Nothing d
 
 -- a part that takes the first term of a token
 abbrev Begins : Part → Type 0
-Begins p = (x : List ℕ) (rest : List Event) (f : List Entry) (a : Ask) (s : List ℕ) (n : List Placed) (c : List Declared) (d : ℕ)
+Begins p = (x : List ℕ) (rest : List Event) (f : List Entry) (a : Constraint) (s : List ℕ) (n : List Placed) (c : List Declared) (d : ℕ)
     → (acts (Takes p (Name x) ∷ rest) (B f a s n c d) ≡ acts rest (pass.built f a s n c (pass.Subject (cell_of n x)) d))
     × (acts (Takes p Bang ∷ rest) (B f a s n c d) ≡ acts rest (B f a s n c d))
     × (acts (Takes p Hash ∷ rest) (B f a s n c d) ≡ acts rest (B f a s n c d))
@@ -46,7 +46,7 @@ unit_begins x rest f a s n c d = (refl, refl, refl)
 token_begins : Begins OneToken
 token_begins x rest f a s n c d = (refl, refl, refl)
 
-token_built : (p : Part) → Begins p → (t : TokenPhrase) (rest : List Event) (f : List Entry) (a : Ask) (s : List ℕ) (n : List Placed) (c : List Declared) (d : ℕ)
+token_built : (p : Part) → Begins p → (t : TokenPhrase) (rest : List Event) (f : List Entry) (a : Constraint) (s : List ℕ) (n : List Placed) (c : List Declared) (d : ℕ)
     → acts (token_events p t rest) (B f a s n c d) ≡ acts rest (B f (a ++ token_ask n t) s n c d)
 token_built p b (phrase.On x) rest f a s n c d = (b x (Leaves Bound ∷ rest) f a s n c d).0
 token_built p b (phrase.Off x) rest f a s n c d = (b x (Takes DeniedName (Name x) ∷ rest) f a s n c d).1
@@ -55,7 +55,7 @@ token_built p b (AtLeast x k) rest f a s n c d = (b x (Takes Bound GreaterEqual 
 token_built p b (AtMost x k) rest f a s n c d = (b x (Takes Bound LessEqual ∷ Takes MostNumber (Number k) ∷ rest) f a s n c d).0
 token_built p b (Exactly x k) rest f a s n c d = (b x (Takes Bound Equal ∷ Takes ExactNumber (Number k) ∷ rest) f a s n c d).0
 
-constraint_built : (q : ConstraintPhrase) (p : Part) → Begins p → (rest : List Event) (f : List Entry) (a : Ask) (s : List ℕ) (n : List Placed) (c : List Declared) (d : ℕ)
+constraint_built : (q : ConstraintPhrase) (p : Part) → Begins p → (rest : List Event) (f : List Entry) (a : Constraint) (s : List ℕ) (n : List Placed) (c : List Declared) (d : ℕ)
     → acts (constraint_events p q rest) (B f a s n c d) ≡ acts rest (B f (a ++ ask_of n q) s n c d)
 constraint_built (One t) p b rest f a s n c d = token_built p b t (Leaves MoreTokens ∷ rest) f a s n c d
 constraint_built (Both t q) p b rest f a s n c d =
@@ -77,7 +77,7 @@ under : (u : UnitPhrase) (e : Entry) (rest : List Event) (f : List Entry) (s : L
 under u e rest f s n c d ih h = ih (Leaves EndBody ∷ rest) (f ++ e ∷ []) s n c d h ∙ ap (λ l. acts rest (B l [] s n (c ++ unit_cells u) d)) (append_assoc f (e ∷ []) (drafts (unit_tree u n (length c))))
 
 -- an ask and then a body
-asked : (q : ConstraintPhrase) (u : UnitPhrase) (k : DraftKind) (mid : Event) → ((rest : List Event) (f : List Entry) (a : Ask) (s : List ℕ) (n : List Placed) (c : List Declared) (d : ℕ) → acts (mid ∷ rest) (B f a s n c d) ≡ acts rest (B (f ++ entry k a ∷ []) [] s n c d))
+asked : (q : ConstraintPhrase) (u : UnitPhrase) (k : DraftKind) (mid : Event) → ((rest : List Event) (f : List Entry) (a : Constraint) (s : List ℕ) (n : List Placed) (c : List Declared) (d : ℕ) → acts (mid ∷ rest) (B f a s n c d) ≡ acts rest (B (f ++ entry k a ∷ []) [] s n c d))
     → (rest : List Event) (f : List Entry) (s : List ℕ) (n : List Placed) (c : List Declared) (d : ℕ) → UnitBuilt u → length c + length (unit_cells u) ≤ 4294967295
     → acts (constraint_events OneToken q (mid ∷ unit_events u (Leaves EndBody ∷ rest))) (B f [] s n c d) ≡ acts rest (B (f ++ entry k (ask_of n q) ∷ drafts (unit_tree u n (length c))) [] s n (c ++ unit_cells u) d)
 asked q u k mid on rest f s n c d ih h =

@@ -14,7 +14,7 @@ use Rattle.tdcc_reader.specs.declared.draft.DraftKind.TheVariants as kind
 use Rattle.tdcc_reader.specs.declared.build.Builder as code
 use Rattle.tdcc_reader.specs.declared.build.Held as code_held
 use Rattle.tdcc_reader.specs.declared.build.Held.TheVariants as held
-use Rattle.tdcc_reader.specs.Trees.{Ask}
+use Rattle.agent_core.specs.Agents.{Constraint}
 use Rattle.tdcc_reader.specs.Surfaces.{Placed, placed, cell_of, Declared, signal, number, cell_view}
 use Rattle.tdcc_reader.specs.Drafts.{Entry, entry}
 use Rattle.tdcc_reader.specs.Growing.{Growing, growing, paired, wrapped}
@@ -29,14 +29,14 @@ pub data Waits : Type 0 where
 
 pub record Built : Type 0 where
   pub drafts : List Entry
-  pub ask : Ask
+  pub ask : Constraint
   pub starts : List ℕ
   pub scope : List Placed
   pub cells : List Declared
   pub waits : Waits
   pub declared : ℕ
 
-abbrev pub built : List Entry → Ask → List ℕ → List Placed → List Declared → Waits → ℕ → Built
+abbrev pub built : List Entry → Constraint → List ℕ → List Placed → List Declared → Waits → ℕ → Built
 built f a s n c w d = record { drafts = f; ask = a; starts = s; scope = n; cells = c; waits = w; declared = d }
 
 -- what the code has of it

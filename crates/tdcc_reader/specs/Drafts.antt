@@ -5,14 +5,15 @@ use Rattle.tdcc_reader.specs.declared.surface.Form.TheVariants as form
 use Rattle.tdcc_reader.specs.declared.draft.Draft as code
 use Rattle.tdcc_reader.specs.declared.draft.DraftKind.{DraftKind}
 use Rattle.tdcc_reader.specs.declared.draft.DraftKind.TheVariants as kind
-use Rattle.tdcc_reader.specs.Trees.{Ask, Tree, Skip, Tell, Then, Else, Par, New, Hence, Next, Always, When, Watch, Time}
+use Rattle.tdcc_reader.specs.Trees.{Tree, Skip, Tell, Then, Else, Par, New, Hence, Next, Always, When, Watch, Time}
+use Rattle.agent_core.specs.Agents.{Constraint}
 
 -- a form with its constraint
 pub record Entry : Type 0 where
   pub kind : DraftKind
-  pub ask : Ask
+  pub ask : Constraint
 
-abbrev pub entry : DraftKind → Ask → Entry
+abbrev pub entry : DraftKind → Constraint → Entry
 entry k a = record { kind = k; ask = a }
 
 -- what the code has of it
@@ -39,7 +40,7 @@ abbrev pub link : ℕ → ℕ → ℕ
 link at behind = min (at + behind) 4294967295
 
 -- the form of a draft that stands at this place
-abbrev pub form_at : ℕ → DraftKind → Ask → Form
+abbrev pub form_at : ℕ → DraftKind → Constraint → Form
 form_at at kind.Skip c = form.Skip
 form_at at kind.Tell c = form.Tell c
 form_at at kind.Then c = form.Then c (link at 1)
@@ -59,11 +60,11 @@ forms_at at [] = []
 forms_at at (e ∷ es) = form_at at e.kind e.ask ∷ forms_at (at + 1) es
 
 -- an ask of a form has 1 to 16 tokens
-abbrev pub IsAsk : Ask → Type 0
+abbrev pub IsAsk : Constraint → Type 0
 IsAsk c = (1 ≤ length c) × (length c ≤ 16)
 
 -- the draft has such an ask, where its form has one
-abbrev pub HasAsk : DraftKind → Ask → Type 0
+abbrev pub HasAsk : DraftKind → Constraint → Type 0
 HasAsk kind.Tell c = IsAsk c
 HasAsk kind.Then c = IsAsk c
 HasAsk kind.Else c = IsAsk c

@@ -12,6 +12,7 @@ use Rattle.program_grammar.specs.Phrases.{TokenPhrase, AtLeast, AtMost, Exactly,
 use Rattle.program_grammar.specs.Phrases as phrase
 use Rattle.tdcc_reader.specs.declared.surface.Form.{Form}
 use Rattle.tdcc_reader.specs.Trees as tree
+use Rattle.agent_core.specs.Agents.{Constraint}
 
 -- a name in scope, and the number of its cell
 pub record Placed : Type 0 where
@@ -51,7 +52,7 @@ abbrev pub cell_view : CellDecl → Declared
 cell_view d = declared_as d.name d.cell
 
 -- the tokens of a written token, of a constraint
-abbrev pub token_ask : List Placed → TokenPhrase → tree.Ask
+abbrev pub token_ask : List Placed → TokenPhrase → Constraint
 token_ask scope (phrase.On x) = (cell_of scope x, token.On) ∷ []
 token_ask scope (phrase.Off x) = (cell_of scope x, token.Off) ∷ []
 token_ask scope (phrase.Clash x) = (cell_of scope x, token.Clash) ∷ []
@@ -59,7 +60,7 @@ token_ask scope (AtLeast x n) = (cell_of scope x, token.AtLeast n) ∷ []
 token_ask scope (AtMost x n) = (cell_of scope x, token.AtMost n) ∷ []
 token_ask scope (Exactly x n) = (cell_of scope x, token.AtLeast n) ∷ (cell_of scope x, token.AtMost n) ∷ []
 
-abbrev pub ask_of : List Placed → ConstraintPhrase → tree.Ask
+abbrev pub ask_of : List Placed → ConstraintPhrase → Constraint
 ask_of scope (One t) = token_ask scope t
 ask_of scope (Both t c) = token_ask scope t ++ ask_of scope c
 

@@ -2,27 +2,23 @@
 -- one. The forms are those of timed default concurrent constraint programming (Saraswat, Jagadeesan and Gupta
 -- 1994/1996).
 use Rattle.std.specs.Prelude.{ℕ, suc, ◌+◌, List, [], ◌∷◌, ◌++◌}
-use Rattle.token_system.specs.declared.cell.Token.{Token}
+use Rattle.agent_core.specs.Agents.{Constraint}
 use Rattle.tdcc_reader.specs.declared.surface.Form.{Form}
 use Rattle.tdcc_reader.specs.declared.surface.Form.TheVariants as form
 
--- tokens of cells, each cell by its number
-abbrev pub Ask : Type 0
-Ask = List (ℕ × Token)
-
 pub data Tree : Type 0 where
   Skip : Tree
-  Tell : (ask : Ask) → Tree
-  Then : (ask : Ask) → (body : Tree) → Tree
-  Else : (ask : Ask) → (body : Tree) → Tree
+  Tell : (ask : Constraint) → Tree
+  Then : (ask : Constraint) → (body : Tree) → Tree
+  Else : (ask : Constraint) → (body : Tree) → Tree
   Par : (left right : Tree) → Tree
   New : (cell : ℕ) → (body : Tree) → Tree
   Hence : (body : Tree) → Tree
   Next : (body : Tree) → Tree
   Always : (body : Tree) → Tree
-  When : (ask : Ask) → (body : Tree) → Tree
-  Watch : (body : Tree) → (stop : Ask) → Tree
-  Time : (body : Tree) → (clock : Ask) → Tree
+  When : (ask : Constraint) → (body : Tree) → Tree
+  Watch : (body : Tree) → (stop : Constraint) → Tree
+  Time : (body : Tree) → (clock : Constraint) → Tree
 
 -- how many forms a tree has
 abbrev pub size : Tree → ℕ

@@ -12,7 +12,7 @@ use Rattle.token_system.specs.Values.{value_eq, value_with, bottom_of}
 use Rattle.token_system.specs.Names.{name_cmp, name_total}
 use Rattle.token_system.specs.Stores.{Valuation, value_at, told}
 use Rattle.agent_core.specs.declared.node.CellDecl.{CellDecl}
-use Rattle.agent_core.specs.Agents.{Ask}
+use Rattle.agent_core.specs.Agents.{Constraint}
 use Rattle.agent_core.specs.Programs.{CoreProgram}
 use Rattle.agent_core.specs.Scope.{AskFits}
 use Rattle.agent_core.specs.Rests.{entails}
@@ -43,7 +43,7 @@ told_declared s k c t only = go (value_eq (value_with (value_at s (Declared k) c
     go true = only
     go false = one_more_declared s k (value_with (value_at s (Declared k) c) t) only
 
-tell_all_declared : (p : CoreProgram) (ask : Ask) (s : Valuation) → AskFits p [] ask → DeclaredOnly s → DeclaredOnly (tell_all p [] ask s)
+tell_all_declared : (p : CoreProgram) (ask : Constraint) (s : Valuation) → AskFits p [] ask → DeclaredOnly s → DeclaredOnly (tell_all p [] ask s)
 tell_all_declared p [] s fits only = only
 tell_all_declared p (pair ∷ ask) s fits only = tell_all_declared p ask (tell_at (slice_get p.cells pair.0) p [] s pair.0 pair.1) fits.1 (go (slice_get p.cells pair.0))
   where
@@ -52,7 +52,7 @@ tell_all_declared p (pair ∷ ask) s fits only = tell_all_declared p ask (tell_a
     go (Some d) = subst (λ (n : CellName). DeclaredOnly (told s n d.cell pair.1)) (sym (in_scope p pair fits.0)) (told_declared s pair.0 d.cell pair.1 only)
 
 -- what is told to the store of which nothing is told is the line's input
-pub told_input : (p : CoreProgram) (line : List ℕ) (tokens : Ask) (i : Valuation) → length line ≤ 32768 → SayAll p (pieces line) tokens → i ≡ tell_all p [] tokens empty → GivesInput p line i
+pub told_input : (p : CoreProgram) (line : List ℕ) (tokens : Constraint) (i : Valuation) → length line ≤ 32768 → SayAll p (pieces line) tokens → i ≡ tell_all p [] tokens empty → GivesInput p line i
 told_input p line tokens i short said told =
     let fits = say_all_fit p (pieces line) tokens said in
     let least = tell_all-least p [] tokens empty (empty-IsStore p) fits in
@@ -70,5 +70,5 @@ pub one_input : (p : CoreProgram) (line : List ℕ) (i j : Valuation) → GivesI
 one_input p line i j x y =
     let same : x.tokens ≡ y.tokens = say_all_one p (pieces line) x.tokens y.tokens x.said y.said in
     Below-antisym p i j x.input.store y.input.store
-    (x.least j y.input.store (subst (λ (a : Ask). IsTrue (entails p [] j a)) (sym same) y.tells))
-    (y.least i x.input.store (subst (λ (a : Ask). IsTrue (entails p [] i a)) same x.tells))
+    (x.least j y.input.store (subst (λ (a : Constraint). IsTrue (entails p [] j a)) (sym same) y.tells))
+    (y.least i x.input.store (subst (λ (a : Constraint). IsTrue (entails p [] i a)) same x.tells))

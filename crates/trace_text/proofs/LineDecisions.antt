@@ -11,7 +11,7 @@ use Rattle.token_system.specs.declared.cell.Kind.TheVariants as kinds
 use Rattle.token_system.specs.declared.reading.Written.{Written}
 use Rattle.token_system.specs.Texts.{IsTokenText}
 use Rattle.agent_core.specs.declared.node.CellDecl.{CellDecl}
-use Rattle.agent_core.specs.Agents.{Ask}
+use Rattle.agent_core.specs.Agents.{Constraint}
 use Rattle.agent_core.specs.Programs.{CoreProgram}
 use Rattle.agent_core.specs.Tellings.{tell_all}
 use Rattle.trace_text.specs.declared.fault.LineFault.{LineFault}
@@ -26,7 +26,7 @@ use Rattle.trace_text.proofs.TextDecisions.{decide_text}
 
 -- the piece says tokens, or it has a fault
 abbrev IsPieceRead : CoreProgram → Piece → Type 0
-IsPieceRead p x = ((tokens : Ask) × Says p x.bytes tokens) ⊎ ((f : LineFault) × (f ≢ Memory) × RefusesPiece p x f)
+IsPieceRead p x = ((tokens : Constraint) × Says p x.bytes tokens) ⊎ ((f : LineFault) × (f ≢ Memory) × RefusesPiece p x f)
 
 -- the cell of a name that is declared
 found_cell : (p : CoreProgram) (name : List ℕ) (cell : ℕ) (d : CellDecl) → cell_named p name ≡ Some cell → (e : CellDecl) × (slice_get p.cells cell ≡ Some e)
@@ -59,7 +59,7 @@ module _ (p : CoreProgram) (x : Piece) where
 
 -- the pieces say tokens, or one of them is the first that has a fault
 abbrev ArePiecesRead : CoreProgram → List Piece → Type 0
-ArePiecesRead p all = ((tokens : Ask) × SayAll p all tokens) ⊎ ((f : LineFault) × (f ≢ Memory) × IsFirstRefused p all f)
+ArePiecesRead p all = ((tokens : Constraint) × SayAll p all tokens) ⊎ ((f : LineFault) × (f ≢ Memory) × IsFirstRefused p all f)
 
 decide_pieces : (p : CoreProgram) (all : List Piece) → ArePiecesRead p all
 decide_pieces p [] = inl ([], refl)

@@ -6,7 +6,7 @@ use Rattle.std.specs.List.{slice_split, onto_first}
 use Rattle.std.specs.FinMap.{empty}
 use Rattle.std.proofs.lemmas.List.{append-nil, drop_all, length_push}
 use Rattle.token_system.specs.Stores.{Valuation}
-use Rattle.agent_core.specs.Agents.{Ask}
+use Rattle.agent_core.specs.Agents.{Constraint}
 use Rattle.agent_core.specs.Programs.{CoreProgram}
 use Rattle.agent_core.specs.Stores.{IsStore}
 use Rattle.agent_core.specs.Tellings.{tell_all}
@@ -44,7 +44,7 @@ span-split (b ∷ line) = go (is_blank b) (span-split line)
 pub record ReadSoFar (p : CoreProgram) (line : List ℕ) (rest : List (List ℕ)) (offset : ℕ) (s : Valuation) : Type 0 where
   pub before : List Piece
   pub whole : pieces line ≡ before ++ pieces_from offset rest
-  pub tokens : Ask
+  pub tokens : Constraint
   pub said : SayAll p before tokens
   pub told : s ≡ tell_all p [] tokens empty
   pub left : offset + span rest ≡ length line + 1

@@ -15,7 +15,7 @@ use Rattle.token_system.specs.Values.{bottom_of, value_entails}
 use Rattle.token_system.specs.Stores.{Valuation, value_at, store_entails}
 use Rattle.token_system.proofs.Adding.{bottom_covered}
 use Rattle.agent_core.specs.declared.node.CellDecl.{CellDecl}
-use Rattle.agent_core.specs.Agents.{Ask}
+use Rattle.agent_core.specs.Agents.{Constraint}
 use Rattle.agent_core.specs.Facts.{IsProgram}
 use Rattle.agent_core.specs.Programs.{CoreProgram}
 use Rattle.agent_core.specs.Rests.{holds, holds_at, entails}
@@ -95,7 +95,7 @@ later_cells p n d ds are j e at =
 abbrev pub own_tokens : ℕ → CellDecl → Valuation → List Token
 own_tokens n d i = value_tokens d.cell.kind d.cell.lo d.cell.hi (value_at i (Declared n) d.cell)
 
-abbrev pub all_tokens : ℕ → List CellDecl → Valuation → Ask
+abbrev pub all_tokens : ℕ → List CellDecl → Valuation → Constraint
 all_tokens n [] i = []
 all_tokens n (d ∷ ds) i = cell_ask n (own_tokens n d i) ++ all_tokens (suc n) ds i
 

@@ -5,7 +5,7 @@ use Rattle.token_system.specs.declared.reading.Written.{Written}
 use Rattle.token_system.proofs.Alike.{true_false}
 use Rattle.token_system.proofs.OneReading.{one_reading}
 use Rattle.agent_core.specs.declared.node.CellDecl.{CellDecl}
-use Rattle.agent_core.specs.Agents.{Ask}
+use Rattle.agent_core.specs.Agents.{Constraint}
 use Rattle.agent_core.specs.Programs.{CoreProgram}
 use Rattle.trace_text.specs.declared.fault.LineFault.{LineFault}
 use Rattle.trace_text.specs.declared.fault.LineFault.TheVariants.{BadToken, UnknownName, WrongKind, LineTooLong, Memory}
@@ -26,7 +26,7 @@ unknown_named : (p : CoreProgram) (bytes : List ℕ) (v w : Written) (n : ℕ) (
 unknown_named p bytes v w n d same none b =
     let wrong : None ≡ Some n = sym none ∙ ap (λ (x : Written). cell_named p (name_in bytes x)) same ∙ b.named in cc
 
-pub said_not_refused : (p : CoreProgram) (x : Piece) (t : Ask) (f : LineFault) → Says p x.bytes t → f ≢ Memory → RefusesPiece p x f → ⊥
+pub said_not_refused : (p : CoreProgram) (x : Piece) (t : Constraint) (f : LineFault) → Says p x.bytes t → f ≢ Memory → RefusesPiece p x f → ⊥
 said_not_refused p x t (BadToken o) s other r = r.1 s.written s.names.text
 said_not_refused p x t (UnknownName o) s other (e, w, text, none) =
     unknown_named p x.bytes w s.written s.cell s.decl (one_reading x.bytes w s.written text s.names.text) none s.names
@@ -57,7 +57,7 @@ one_refusal p x (WrongKind m) (UnknownName n) a b (e, w, cell, d, names, fails) 
 one_refusal p x (WrongKind m) (WrongKind n) a b r q = ap WrongKind (r.0 ∙ sym q.0)
 
 -- the first refused piece of a list is one piece
-first_one : (p : CoreProgram) (f g : LineFault) → f ≢ Memory → g ≢ Memory → (xs ys : List Piece) (x y : Piece) (us vs : List Piece) (s t : Ask)
+first_one : (p : CoreProgram) (f g : LineFault) → f ≢ Memory → g ≢ Memory → (xs ys : List Piece) (x y : Piece) (us vs : List Piece) (s t : Constraint)
     → xs ++ x ∷ us ≡ ys ++ y ∷ vs → SayAll p xs s → SayAll p ys t → RefusesPiece p x f → RefusesPiece p y g → x ≡ y
 first_one p f g a b [] [] x y us vs s t e sx sy r q = cc
 first_one p f g a b [] (z ∷ ys) x y us vs s t e sx (first, rest, here, later, e') r q =
@@ -95,14 +95,14 @@ one_line_fault p line LineTooLong g a b r q = sym (too_long p line g b q r)
 one_line_fault p line Memory g a b r q = absurd (a refl)
 
 -- a line that gives an input is not refused
-pub given_not_refused : (p : CoreProgram) (line : List ℕ) (tokens : Ask) (f : LineFault) → f ≢ Memory → length line ≤ 32768 → SayAll p (pieces line) tokens → RefusesLine p line f → ⊥
+pub given_not_refused : (p : CoreProgram) (line : List ℕ) (tokens : Constraint) (f : LineFault) → f ≢ Memory → length line ≤ 32768 → SayAll p (pieces line) tokens → RefusesLine p line f → ⊥
 given_not_refused p line tokens f other short said r =
     let x = within p line f other r short in
     let own = say_all-middle p x.before x.piece x.after tokens (subst (λ (all : List Piece). SayAll p all tokens) x.parts said) in
     said_not_refused p x.piece own.0 f own.1 other x.refused
 
 -- the first piece that is refused, behind pieces that say tokens
-pub first_refused : (p : CoreProgram) (all before : List Piece) (x : Piece) (after : List Piece) (tokens : Ask) (f : LineFault)
+pub first_refused : (p : CoreProgram) (all before : List Piece) (x : Piece) (after : List Piece) (tokens : Constraint) (f : LineFault)
     → all ≡ before ++ x ∷ after → SayAll p before tokens → RefusesPiece p x f → RefusesPieces p all f
 first_refused p all before x after tokens (BadToken o) e said r = record { before = before; piece = x; after = after; parts = e; tokens = tokens; accepted = said; refused = r }
 first_refused p all before x after tokens (UnknownName o) e said r = record { before = before; piece = x; after = after; parts = e; tokens = tokens; accepted = said; refused = r }

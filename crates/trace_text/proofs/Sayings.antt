@@ -8,7 +8,7 @@ use Rattle.token_system.specs.Tokens.{token_fits}
 use Rattle.token_system.specs.Stores.{Valuation}
 use Rattle.token_system.proofs.OneReading.{one_reading}
 use Rattle.agent_core.specs.declared.node.CellDecl.{CellDecl}
-use Rattle.agent_core.specs.Agents.{Ask}
+use Rattle.agent_core.specs.Agents.{Constraint}
 use Rattle.agent_core.specs.Programs.{CoreProgram}
 use Rattle.agent_core.specs.Scope.{AskFits}
 use Rattle.agent_core.specs.Tellings.{tell_at, tell_all}
@@ -17,11 +17,11 @@ use Rattle.trace_text.specs.Pieces.{Piece}
 use Rattle.trace_text.specs.Inputs.{cell_named, name_in, ask_of, tokens_of, fits_if_some, text_fits, Says, SayAll}
 use Rattle.trace_text.proofs.DeclaredTokens.{declared_fits, named_within}
 
-pub AskFits-append : (p : CoreProgram) (b : List ℕ) (xs ys : Ask) → AskFits p b xs → AskFits p b ys → AskFits p b (xs ++ ys)
+pub AskFits-append : (p : CoreProgram) (b : List ℕ) (xs ys : Constraint) → AskFits p b xs → AskFits p b ys → AskFits p b (xs ++ ys)
 AskFits-append p b [] ys f g = g
 AskFits-append p b (x ∷ xs) ys f g = (f.0, AskFits-append p b xs ys f.1 g)
 
-pub tell_all-append : (p : CoreProgram) (b : List ℕ) (xs ys : Ask) (u : Valuation) → tell_all p b (xs ++ ys) u ≡ tell_all p b ys (tell_all p b xs u)
+pub tell_all-append : (p : CoreProgram) (b : List ℕ) (xs ys : Constraint) (u : Valuation) → tell_all p b (xs ++ ys) u ≡ tell_all p b ys (tell_all p b xs u)
 tell_all-append p b [] ys u = refl
 tell_all-append p b (x ∷ xs) ys u = tell_all-append p b xs ys (tell_at (slice_get p.cells x.0) p b u x.0 x.1)
 
@@ -34,35 +34,35 @@ tokens_fit p cell d w lt found fits =
     second None h = tt
     second (Some t) h = (declared_fits p cell d t lt found h, tt)
 
-pub says_fit : (p : CoreProgram) (bytes : List ℕ) (tokens : Ask) → Says p bytes tokens → AskFits p [] tokens
+pub says_fit : (p : CoreProgram) (bytes : List ℕ) (tokens : Constraint) → Says p bytes tokens → AskFits p [] tokens
 says_fit p bytes tokens s =
     subst (AskFits p []) (sym s.meant) (tokens_fit p s.cell s.decl s.written (named_within p (name_in bytes s.written) s.cell s.decl s.names.named) s.names.found s.fits)
 
-pub say_all_fit : (p : CoreProgram) (all : List Piece) (tokens : Ask) → SayAll p all tokens → AskFits p [] tokens
+pub say_all_fit : (p : CoreProgram) (all : List Piece) (tokens : Constraint) → SayAll p all tokens → AskFits p [] tokens
 say_all_fit p [] tokens h = subst (AskFits p []) (sym h) tt
 say_all_fit p (x ∷ all) tokens (first, rest, here, later, e) = subst (AskFits p []) (sym e) (AskFits-append p [] first rest (says_fit p x.bytes first here) (say_all_fit p all rest later))
 
-pub say_all-append : (p : CoreProgram) (xs ys : List Piece) (s t : Ask) → SayAll p xs s → SayAll p ys t → SayAll p (xs ++ ys) (s ++ t)
-say_all-append p [] ys s t a b = subst (λ (z : Ask). SayAll p ys (z ++ t)) (sym a) b
+pub say_all-append : (p : CoreProgram) (xs ys : List Piece) (s t : Constraint) → SayAll p xs s → SayAll p ys t → SayAll p (xs ++ ys) (s ++ t)
+say_all-append p [] ys s t a b = subst (λ (z : Constraint). SayAll p ys (z ++ t)) (sym a) b
 say_all-append p (x ∷ xs) ys s t (first, rest, here, later, e) b =
-    (first, rest ++ t, here, say_all-append p xs ys rest t later b, ap (λ (z : Ask). z ++ t) e ∙ append_assoc first rest t)
+    (first, rest ++ t, here, say_all-append p xs ys rest t later b, ap (λ (z : Constraint). z ++ t) e ∙ append_assoc first rest t)
 
-pub say_one : (p : CoreProgram) (x : Piece) (tokens : Ask) → Says p x.bytes tokens → SayAll p (x ∷ []) tokens
+pub say_one : (p : CoreProgram) (x : Piece) (tokens : Constraint) → Says p x.bytes tokens → SayAll p (x ∷ []) tokens
 say_one p x tokens h = (tokens, [], h, refl, sym (append-nil tokens))
 
 -- one of some pieces that all say tokens
-pub say_all-middle : (p : CoreProgram) (before : List Piece) (x : Piece) (after : List Piece) (tokens : Ask) → SayAll p (before ++ x ∷ after) tokens → (own : Ask) × Says p x.bytes own
+pub say_all-middle : (p : CoreProgram) (before : List Piece) (x : Piece) (after : List Piece) (tokens : Constraint) → SayAll p (before ++ x ∷ after) tokens → (own : Constraint) × Says p x.bytes own
 say_all-middle p [] x after tokens (first, rest, here, later, e) = (first, here)
 say_all-middle p (y ∷ before) x after tokens (first, rest, here, later, e) = say_all-middle p before x after rest later
 
-pub says_one : (p : CoreProgram) (bytes : List ℕ) (s t : Ask) → Says p bytes s → Says p bytes t → s ≡ t
+pub says_one : (p : CoreProgram) (bytes : List ℕ) (s t : Constraint) → Says p bytes s → Says p bytes t → s ≡ t
 says_one p bytes s t a b =
     let w : a.written ≡ b.written = one_reading bytes a.written b.written a.names.text b.names.text in
     let found : Some a.cell ≡ Some b.cell = sym a.names.named ∙ ap (λ (x : Written). cell_named p (name_in bytes x)) w ∙ b.names.named in
     let cell : a.cell ≡ b.cell = cc in
     a.meant ∙ ap (λ (c : ℕ). tokens_of c a.written) cell ∙ ap (tokens_of b.cell) w ∙ sym b.meant
 
-pub say_all_one : (p : CoreProgram) (all : List Piece) (s t : Ask) → SayAll p all s → SayAll p all t → s ≡ t
+pub say_all_one : (p : CoreProgram) (all : List Piece) (s t : Constraint) → SayAll p all s → SayAll p all t → s ≡ t
 say_all_one p [] s t a b = a ∙ sym b
 say_all_one p (x ∷ all) s t (first, rest, here, later, e) (first', rest', here', later', e') =
-    e ∙ ap (λ (z : Ask). z ++ rest) (says_one p x.bytes first first' here here') ∙ ap (λ (z : Ask). first' ++ z) (say_all_one p all rest rest' later later') ∙ sym e'
+    e ∙ ap (λ (z : Constraint). z ++ rest) (says_one p x.bytes first first' here here') ∙ ap (λ (z : Constraint). first' ++ z) (say_all_one p all rest rest' later later') ∙ sym e'

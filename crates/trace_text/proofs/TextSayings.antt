@@ -17,7 +17,7 @@ use Rattle.token_system.specs.Values.{bottom_of, value_eq, IsProper, WithinDomai
 use Rattle.token_system.specs.Texts.{is_name, text_of, written_of, exactly, IsTokenText, plain}
 use Rattle.token_system.proofs.ReadBack.{fitting_reads_back, number-signed_decimal}
 use Rattle.agent_core.specs.declared.node.CellDecl.{CellDecl}
-use Rattle.agent_core.specs.Agents.{Ask}
+use Rattle.agent_core.specs.Agents.{Constraint}
 use Rattle.agent_core.specs.Programs.{CoreProgram}
 use Rattle.agent_core.specs.Strata.{Each}
 use Rattle.agent_core.proofs.Bools.{both, second_of_both}
@@ -29,20 +29,20 @@ use Rattle.trace_text.proofs.TokenTexts.{HasNoBlank, text_facts, split_join}
 use Rattle.trace_text.proofs.ValueTokens.{IsHeld, told_held, told_tokens, token_if, value_tokens, Each-front, Each-back}
 
 -- each of the texts says some tokens, and together they say these
-abbrev pub SayTexts : CoreProgram → List (List ℕ) → Ask → Type 0
+abbrev pub SayTexts : CoreProgram → List (List ℕ) → Constraint → Type 0
 SayTexts p [] tokens = tokens ≡ []
-SayTexts p (text ∷ later) tokens = (first rest : Ask) × Says p text first × SayTexts p later rest × (tokens ≡ first ++ rest)
+SayTexts p (text ∷ later) tokens = (first rest : Constraint) × Says p text first × SayTexts p later rest × (tokens ≡ first ++ rest)
 
-pub SayTexts-append : (p : CoreProgram) (xs ys : List (List ℕ)) (s t : Ask) → SayTexts p xs s → SayTexts p ys t → SayTexts p (xs ++ ys) (s ++ t)
-SayTexts-append p [] ys s t a b = subst (λ (z : Ask). SayTexts p ys (z ++ t)) (sym a) b
+pub SayTexts-append : (p : CoreProgram) (xs ys : List (List ℕ)) (s t : Constraint) → SayTexts p xs s → SayTexts p ys t → SayTexts p (xs ++ ys) (s ++ t)
+SayTexts-append p [] ys s t a b = subst (λ (z : Constraint). SayTexts p ys (z ++ t)) (sym a) b
 SayTexts-append p (x ∷ xs) ys s t (first, rest, here, later, e) b =
-    (first, rest ++ t, here, SayTexts-append p xs ys rest t later b, ap (λ (z : Ask). z ++ t) e ∙ append_assoc first rest t)
+    (first, rest ++ t, here, SayTexts-append p xs ys rest t later b, ap (λ (z : Constraint). z ++ t) e ∙ append_assoc first rest t)
 
-no_blanks : (p : CoreProgram) (texts : List (List ℕ)) (tokens : Ask) → SayTexts p texts tokens → Each HasNoBlank texts
+no_blanks : (p : CoreProgram) (texts : List (List ℕ)) (tokens : Constraint) → SayTexts p texts tokens → Each HasNoBlank texts
 no_blanks p [] tokens h = tt
 no_blanks p (text ∷ texts) tokens (first, rest, here, later, e) = ((text_facts text here.written here.names.text).no_blank, no_blanks p texts rest later)
 
-placed_say : (p : CoreProgram) (offset : ℕ) (texts : List (List ℕ)) (tokens : Ask) → SayTexts p texts tokens → SayAll p (filter (λ (piece : Piece). is_some piece.bytes) (placed offset texts)) tokens
+placed_say : (p : CoreProgram) (offset : ℕ) (texts : List (List ℕ)) (tokens : Constraint) → SayTexts p texts tokens → SayAll p (filter (λ (piece : Piece). is_some piece.bytes) (placed offset texts)) tokens
 placed_say p offset [] tokens h = h
 placed_say p offset (text ∷ texts) tokens (first, rest, here, later, e) =
     let later_pieces : List Piece = filter (λ (piece : Piece). is_some piece.bytes) (placed (offset + (length text + 1)) texts) in
@@ -50,14 +50,14 @@ placed_say p offset (text ∷ texts) tokens (first, rest, here, later, e) =
     (first, rest, here, placed_say p (offset + (length text + 1)) texts rest later, e)
 
 -- so do the pieces of their line
-pub line_says : (p : CoreProgram) (texts : List (List ℕ)) (tokens : Ask) → SayTexts p texts tokens → SayAll p (pieces (join_with_byte 32 texts)) tokens
+pub line_says : (p : CoreProgram) (texts : List (List ℕ)) (tokens : Constraint) → SayTexts p texts tokens → SayAll p (pieces (join_with_byte 32 texts)) tokens
 line_says p [] tokens h = h
 line_says p (text ∷ texts) tokens h =
     let calm = no_blanks p (text ∷ texts) tokens h in
     subst (λ (parts : List (List ℕ)). SayAll p (filter (λ (piece : Piece). is_some piece.bytes) (placed 0 parts)) tokens) (sym (split_join text texts calm.0 calm.1)) (placed_say p 0 (text ∷ texts) tokens h)
 
 -- with a space behind each they take 45 bytes for each text at most
-pub texts_short : (p : CoreProgram) (texts : List (List ℕ)) (tokens : Ask) → SayTexts p texts tokens → length (spaced texts) ≤ 45 * length texts
+pub texts_short : (p : CoreProgram) (texts : List (List ℕ)) (tokens : Constraint) → SayTexts p texts tokens → length (spaced texts) ≤ 45 * length texts
 texts_short p [] tokens h = omega arith
 texts_short p (text ∷ texts) tokens (first, rest, here, later, e) =
     let own = (text_facts text here.written here.names.text).short in
@@ -65,13 +65,13 @@ texts_short p (text ∷ texts) tokens (first, rest, here, later, e) =
     omega (arith, length-append (text ++ 32 ∷ []) (spaced texts), length-append text (32 ∷ []))
 
 -- tokens of one cell
-abbrev pub cell_ask : ℕ → List Token → Ask
+abbrev pub cell_ask : ℕ → List Token → Constraint
 cell_ask n [] = []
 cell_ask n (t ∷ ts) = (n, t) ∷ cell_ask n ts
 
 pub cell_ask-append : (n : ℕ) (xs ys : List Token) → cell_ask n (xs ++ ys) ≡ cell_ask n xs ++ cell_ask n ys
 cell_ask-append n [] ys = refl
-cell_ask-append n (x ∷ xs) ys = ap (λ (z : Ask). (n, x) ∷ z) (cell_ask-append n xs ys)
+cell_ask-append n (x ∷ xs) ys = ap (λ (z : Constraint). (n, x) ∷ z) (cell_ask-append n xs ys)
 
 -- the name in a token's text
 cut_name : (name rest : List ℕ) (m : ℕ) → m ≡ length name → take m (name ++ rest) ≡ name
@@ -129,7 +129,7 @@ module _ (p : CoreProgram) (n : ℕ) (d : CellDecl) (found : slice_get p.cells n
     meant = refl;
   }
 
-  one_text : (text : List ℕ) (tokens : Ask) → Says p text tokens → SayTexts p (text ∷ []) tokens
+  one_text : (text : List ℕ) (tokens : Constraint) → Says p text tokens → SayTexts p (text ∷ []) tokens
   one_text text tokens h = (tokens, [], h, refl, sym (append-nil tokens))
 
   say_if : (v : Value) (b : Bool) (t : Token) → Each (IsHeld d.cell.kind v) (token_if b t) → SayTexts p (text_if b (text_of d.name t)) (cell_ask n (token_if b t))

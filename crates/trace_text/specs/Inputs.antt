@@ -9,7 +9,7 @@ use Rattle.token_system.specs.Tokens.{token_fits}
 use Rattle.token_system.specs.Texts.{IsTokenText}
 use Rattle.token_system.specs.Stores.{Valuation}
 use Rattle.agent_core.specs.declared.node.CellDecl.{CellDecl}
-use Rattle.agent_core.specs.Agents.{Ask}
+use Rattle.agent_core.specs.Agents.{Constraint}
 use Rattle.agent_core.specs.Programs.{CoreProgram}
 use Rattle.agent_core.specs.Stores.{IsStore, IsInput, Below}
 use Rattle.agent_core.specs.Rests.{entails}
@@ -24,12 +24,12 @@ abbrev pub name_in : List ℕ → Written → List ℕ
 name_in bytes w = slice_range bytes w.name_start w.name_end
 
 -- a token of the cell with this number, if there is one
-abbrev pub ask_of : ℕ → Option Token → Ask
+abbrev pub ask_of : ℕ → Option Token → Constraint
 ask_of cell None = []
 ask_of cell (Some t) = (cell, t) ∷ []
 
 -- the tokens that a text means, of the cell with this number: one, or the two bounds of `x=3`
-abbrev pub tokens_of : ℕ → Written → Ask
+abbrev pub tokens_of : ℕ → Written → Constraint
 tokens_of cell w = (cell, w.first) ∷ ask_of cell w.second
 
 abbrev pub fits_if_some : Cell → Option Token → Bool
@@ -47,7 +47,7 @@ pub record NamesCell (p : CoreProgram) (bytes : List ℕ) (w : Written) (cell : 
   pub found : slice_get p.cells cell ≡ Some d
 
 -- the bytes are the text of a token of a declared cell, and mean these tokens
-pub record Says (p : CoreProgram) (bytes : List ℕ) (tokens : Ask) : Type 0 where
+pub record Says (p : CoreProgram) (bytes : List ℕ) (tokens : Constraint) : Type 0 where
   pub written : Written
   pub cell : ℕ
   pub decl : CellDecl
@@ -56,14 +56,14 @@ pub record Says (p : CoreProgram) (bytes : List ℕ) (tokens : Ask) : Type 0 whe
   pub meant : tokens ≡ tokens_of cell written
 
 -- each of the pieces says some tokens, and together, in order, they say these
-abbrev pub SayAll : CoreProgram → List Piece → Ask → Type 0
+abbrev pub SayAll : CoreProgram → List Piece → Constraint → Type 0
 SayAll p [] tokens = tokens ≡ []
-SayAll p (piece ∷ later) tokens = (first rest : Ask) × Says p piece.bytes first × SayAll p later rest × (tokens ≡ first ++ rest)
+SayAll p (piece ∷ later) tokens = (first rest : Constraint) × Says p piece.bytes first × SayAll p later rest × (tokens ≡ first ++ rest)
 
 -- the line is within the limit of bytes and gives the input: the least store that entails the tokens of its pieces
 pub record GivesInput (p : CoreProgram) (line : List ℕ) (i : Valuation) : Type 0 where
   pub short : length line ≤ 32768
-  pub tokens : Ask
+  pub tokens : Constraint
   pub said : SayAll p (pieces line) tokens
   pub input : IsInput p i
   pub tells : IsTrue (entails p [] i tokens)

@@ -3,7 +3,7 @@ use Rattle.std.specs.Prelude.{◌≡◌, ℕ, ◌<◌, ◌≤◌, false, List, �
 use Rattle.token_system.specs.declared.reading.Written.{Written}
 use Rattle.token_system.specs.Texts.{IsTokenText}
 use Rattle.agent_core.specs.declared.node.CellDecl.{CellDecl}
-use Rattle.agent_core.specs.Agents.{Ask}
+use Rattle.agent_core.specs.Agents.{Constraint}
 use Rattle.agent_core.specs.Programs.{CoreProgram}
 use Rattle.trace_text.specs.declared.fault.LineFault.{LineFault}
 use Rattle.trace_text.specs.declared.fault.LineFault.TheVariants.{BadToken, UnknownName, WrongKind, LineTooLong, Memory}
@@ -25,7 +25,7 @@ pub record IsFirstRefused (p : CoreProgram) (all : List Piece) (fault : LineFaul
   pub piece : Piece
   pub after : List Piece
   pub parts : all ≡ before ++ piece ∷ after
-  pub tokens : Ask
+  pub tokens : Constraint
   pub accepted : SayAll p before tokens
   pub refused : RefusesPiece p piece fault
 

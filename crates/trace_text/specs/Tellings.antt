@@ -2,7 +2,7 @@
 use Rattle.std.specs.Prelude.{◌≡◌, ℕ, List, [], slice_get}
 use Rattle.token_system.specs.declared.cell.Token.{Token}
 use Rattle.token_system.specs.Stores.{Valuation}
-use Rattle.agent_core.specs.Agents.{Ask}
+use Rattle.agent_core.specs.Agents.{Constraint}
 use Rattle.agent_core.specs.Programs.{CoreProgram}
 use Rattle.agent_core.specs.Tellings.{tell_at, tell_all}
 use Rattle.trace_text.specs.Pieces.{Piece}
@@ -14,12 +14,12 @@ told_one p pair u = tell_at (slice_get p.cells pair.0) p [] u pair.0 pair.1
 
 -- the bytes say some tokens, and these are told
 pub record TellsPiece (p : CoreProgram) (bytes : List ℕ) (old new : Valuation) : Type 0 where
-  pub tokens : Ask
+  pub tokens : Constraint
   pub said : Says p bytes tokens
   pub told : new ≡ tell_all p [] tokens old
 
 -- each of the pieces says some tokens, and these are told in order
 pub record TellsPieces (p : CoreProgram) (all : List Piece) (old new : Valuation) : Type 0 where
-  pub tokens : Ask
+  pub tokens : Constraint
   pub said : SayAll p all tokens
   pub told : new ≡ tell_all p [] tokens old

@@ -5,7 +5,7 @@ use Rattle.token_system.specs.declared.name.CellName.TheVariants.{Local}
 use Rattle.agent_core.specs.declared.node.CellDecl.{CellDecl}
 use Rattle.agent_core.specs.declared.node.Node.{Node}
 use Rattle.agent_core.specs.declared.node.Node.TheVariants as nodes
-use Rattle.agent_core.specs.Agents.{Ask}
+use Rattle.agent_core.specs.Agents.{Constraint}
 use Rattle.agent_core.specs.Programs.{CoreProgram}
 use Rattle.agent_core.specs.Names.{Names, depth_of}
 use Rattle.agent_core.proofs.tests.local_at_each_instant.Goals as goal
@@ -16,7 +16,7 @@ four_nodes none one two three four a b c d e0 e1 e2 e3 e4 =
     e4 ∙ ap (λ (xs : List Node). xs ++ d ∷ []) (e3 ∙ ap (λ (xs : List Node). xs ++ c ∷ []) (e2 ∙ ap (λ (xs : List Node). xs ++ b ∷ []) (e1 ∙ ap (λ (xs : List Node). xs ++ a ∷ []) e0)))
 
 -- the new node below the hence has the local cell
-local_below : {E : Type 0} (r : Result CoreProgram E) (all : List Node) (ask : Ask) → IfOk r (λ p. (d : CellDecl) × (slice_get p.cells 0 ≡ Some d) × (d.cell.kind ≡ Signal)) → IfOk r (λ p. p.nodes ≡ all)
+local_below : {E : Type 0} (r : Result CoreProgram E) (all : List Node) (ask : Constraint) → IfOk r (λ p. (d : CellDecl) × (slice_get p.cells 0 ≡ Some d) × (d.cell.kind ≡ Signal)) → IfOk r (λ p. p.nodes ≡ all)
     → all ≡ nodes.Hence 1 ∷ nodes.New 0 2 ∷ nodes.Next 3 ∷ nodes.Tell ask ∷ []
     → IfOk r (λ p. (birth : ℕ) → (d : CellDecl) × Names p (Local 1 (birth ∷ [])) d × (slice_get p.cells 0 ≡ Some d) × (d.cell.kind ≡ Signal))
 local_below (Ok p) all ask signal n e =

@@ -2,14 +2,14 @@ use Rattle.std.proofs.Common.{◌≡◌, ◌<◌, ℕ, List, length, get_or, ap,
 use Rattle.std.specs.Prelude.{All}
 use Rattle.token_system.specs.declared.cell.Token.{Token}
 use Rattle.tdcc_reader.specs.declared.draft.Draft.{Draft}
-use Rattle.tdcc_reader.specs.Trees.{Ask}
+use Rattle.agent_core.specs.Agents.{Constraint}
 use Rattle.tdcc_reader.specs.Drafts.{HasAsk, IsWholeDraft}
 use Rattle.tdcc_reader.proofs.draft.forms.Goals as goal
 
 pair : (x y : ℕ × Token) → y.0 ≡ x.0 → y.1 ≡ x.1 → y ≡ x
 pair x y e f = let g : (y.0, y.1) ≡ (x.0, y.1) = ap (λ k. (k, y.1)) e in let h : (x.0, y.1) ≡ (x.0, x.1) = ap (λ t. (x.0, t)) f in g ∙ h
 
-whole : (ds : List Draft) (i : ℕ) (d : Draft) (ask : Ask) → All IsWholeDraft ds → d ≡ get_or ds i d → i < length ds → ask ≡ d.ask.items → HasAsk d.kind ask
+whole : (ds : List Draft) (i : ℕ) (d : Draft) (ask : Constraint) → All IsWholeDraft ds → d ≡ get_or ds i d → i < length ds → ask ≡ d.ask.items → HasAsk d.kind ask
 whole ds i d ask all is h e = subst (HasAsk d.kind) (sym e) (subst IsWholeDraft (sym is) (all i d h))
 
 pub form_at-requires : goal.form_at-requires
