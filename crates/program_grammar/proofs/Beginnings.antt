@@ -4,7 +4,7 @@ use Rattle.std.specs.Prelude.{◌&&◌, pos}
 use Rattle.std.proofs.lemmas.List.{append-nil}
 use Rattle.program_grammar.specs.Terms.{Term, class_of, classes, Name, Number, In, Skip, Range}
 use Rattle.program_grammar.specs.Spelling.{program}
-use Rattle.program_grammar.specs.Alternatives.{Symbol, AName, ANumber, The, AToken, AConstraint, AUnit, AnAgent, SomeNames, AnItem, SomeItems, AProgram, Fits, Alternative, asserts, denies, clashes, at_least, at_most, exactly, one, both, nothing, tell, braces, if_then, if_else, new_signal, new_int, hence, next, only, par, last_name, more_names, item, last_item, more_items, runs, signals, ints, Is, AreAll, none, some, by, Begins, BeginAll, empty, within, whole, part, past}
+use Rattle.program_grammar.specs.Alternatives.{Symbol, AName, ANumber, The, AToken, AConstraint, AUnit, AnAgent, SomeNames, AnItem, SomeItems, AProgram, MatchesSymbol, Alternative, asserts, denies, clashes, at_least, at_most, exactly, one, both, nothing, tell, braces, if_then, if_else, new_signal, new_int, hence, next, only, par, last_name, more_names, item, last_item, more_items, runs, signals, ints, Is, AreAll, none, some, by, Begins, BeginAll, empty, within, whole, part, past}
 use Rattle.program_grammar.specs.Alternatives.Is.{itself as is_itself}
 use Rattle.program_grammar.specs.Alternatives.Begins.{itself as begins_itself}
 use Rattle.program_grammar.specs.declared.words.Language.{Language}
@@ -27,7 +27,7 @@ is_plain _ = true
 abbrev plain : List Term → Bool
 plain ts = list_all (permits Core) (classes ts)
 
-fits_plain : (s : Symbol) (t : Term) → Fits s t → is_plain s ≡ true → plain (t ∷ []) ≡ true
+fits_plain : (s : Symbol) (t : Term) → MatchesSymbol s t → is_plain s ≡ true → plain (t ∷ []) ≡ true
 fits_plain AName t (x, e) h = ap (λ v. plain (v ∷ [])) e
 fits_plain ANumber t (x, e) h = ap (λ v. plain (v ∷ [])) e
 fits_plain (The v) t e h = ap (λ v. plain (v ∷ [])) e ∙ ap (λ b. b && true) h

@@ -6,13 +6,13 @@ use Rattle.program_grammar.specs.Terms.{Term, classes, Then, Else, Semicolon, Am
 use Rattle.program_grammar.specs.declared.words.Word.{Word}
 use Rattle.program_grammar.specs.declared.words.Word.TheVariants as class
 use Rattle.std.proofs.lemmas.List.Folds.{list_all-append}
-use Rattle.program_grammar.specs.declared.parts.Part.{Part}
-use Rattle.program_grammar.specs.declared.parts.Part.TheVariants.{Declarations, MoreNames, OneUnit, MoreUnits, OneToken, MoreTokens, Bound, Branch, DeclaredName, DeniedName, ClashingName, LocalName, LeastNumber, MostNumber, ExactNumber, TheIn, TheClose, EndTell, EndBody, EndLocal, DeclaredIntName, LocalIntName, DomainIn, LowNumber, TheRange, HighNumber, MoreItems, NewKind, TheDo, TheWatching, TheOn, EndWatch, EndTimed}
+use Rattle.program_grammar.specs.declared.stack_symbols.StackSymbol.{StackSymbol}
+use Rattle.program_grammar.specs.declared.stack_symbols.StackSymbol.TheVariants.{Declarations, MoreNames, OneUnit, MoreUnits, OneToken, MoreTokens, Bound, Branch, DeclaredName, DeniedName, ClashingName, LocalName, LeastNumber, MostNumber, ExactNumber, TheIn, TheClose, EndTell, EndBody, EndLocal, DeclaredIntName, LocalIntName, DomainIn, LowNumber, TheRange, HighNumber, MoreItems, NewKind, TheDo, TheWatching, TheOn, EndWatch, EndTimed}
 use Rattle.program_grammar.specs.Phrases.{TokenPhrase, AtLeast, AtMost, Exactly, ConstraintPhrase, One, Both, UnitPhrase, Tell, Braces, IfThen, IfElse, LocalSignal, LocalInt, AgentPhrase, Only, Par, NamesPhrase, LastName, MoreName, ItemsPhrase, LastItem, MoreItem, ProgramPhrase, Runs, Signals, Ints}
 use Rattle.program_grammar.specs.Phrases as phrase
 use Rattle.program_grammar.specs.Spelling.{token, constraint, unit, agent, names, items, program}
-use Rattle.program_grammar.specs.Table.{after}
-use Rattle.program_grammar.specs.Machine.{may_end, took, feed, run, start}
+use Rattle.program_grammar.specs.Table.{stack_after}
+use Rattle.program_grammar.specs.Machine.{may_end, replaced, feed, run, start}
 use Rattle.std.specs.List.{list_all}
 use Rattle.program_grammar.specs.declared.words.Language.{Language}
 use Rattle.program_grammar.specs.declared.words.Language.TheVariants.{Whole, Core}
@@ -92,13 +92,13 @@ permitted_allowed Whole p h = tt
 permitted_allowed Core p h = sym (plain-program p) ∙ h
 
 -- the parts that come up where no derived form begins
-abbrev is_plain : Part → Bool
+abbrev is_plain : StackSymbol → Bool
 is_plain TheDo = false
 is_plain _ = true
 
 -- a row of the table
-abbrev Row : Part → Word → Type 0
-Row p w = permits Core w ≡ true → IfSome (after p w) (λ rest. list_all is_plain rest ≡ true)
+abbrev Row : StackSymbol → Word → Type 0
+Row p w = permits Core w ≡ true → IfSome (stack_after p w) (λ rest. list_all is_plain rest ≡ true)
 
 unit_row : (w : Word) → Row OneUnit w
 unit_row class.Skip h = refl
@@ -193,7 +193,7 @@ close_row : (w : Word) → Row TheClose w
 close_row class.CloseBrace h = refl
 close_row _ h = tt
 
-row : (p : Part) (w : Word) → Row p w
+row : (p : StackSymbol) (w : Word) → Row p w
 row Declarations w h = declarations_row w h
 row MoreNames w h = names_row w h
 row OneUnit w h = unit_row w h
@@ -228,29 +228,29 @@ row TheOn w h = on_row w h
 row EndWatch w h = tt
 row EndTimed w h = tt
 
-fed_plain : (ps qs : List Part) (w : Word) → permits Core w ≡ true → list_all is_plain ps ≡ true → feed ps w ≡ Some qs → list_all is_plain qs ≡ true
+fed_plain : (ps qs : List StackSymbol) (w : Word) → permits Core w ≡ true → list_all is_plain ps ≡ true → feed ps w ≡ Some qs → list_all is_plain qs ≡ true
 fed_plain [] qs w h all e = absurd (none_some e)
-fed_plain (p ∷ ps) qs w h all e = go (after p w) (may_end p) (row p w h) (λ e'. fed_plain ps qs w h rest e') e
+fed_plain (p ∷ ps) qs w h all e = go (stack_after p w) (may_end p) (row p w h) (λ e'. fed_plain ps qs w h rest e') e
   where
     rest : list_all is_plain ps ≡ true
     rest = and_right (is_plain p) (list_all is_plain ps) all
 
-    go : (o : Option (List Part)) (b : Bool) → IfSome o (λ more. list_all is_plain more ≡ true) → (feed ps w ≡ Some qs → list_all is_plain qs ≡ true)
-        → took o ps (if b then feed ps w else None) ≡ Some qs → list_all is_plain qs ≡ true
+    go : (o : Option (List StackSymbol)) (b : Bool) → IfSome o (λ more. list_all is_plain more ≡ true) → (feed ps w ≡ Some qs → list_all is_plain qs ≡ true)
+        → replaced o ps (if b then feed ps w else None) ≡ Some qs → list_all is_plain qs ≡ true
     go (Some more) b r later e = ap (list_all is_plain) (sym (some_same e)) ∙ list_all-append is_plain more ps ∙ ap (λ c. c && list_all is_plain ps) r ∙ rest
     go None true r later e = later e
     go None false r later e = absurd (none_some e)
 
-run_plain : (ws : List Word) (ps qs : List Part) → list_all (permits Core) ws ≡ true → list_all is_plain ps ≡ true → run ps ws ≡ Some qs → list_all is_plain qs ≡ true
+run_plain : (ws : List Word) (ps qs : List StackSymbol) → list_all (permits Core) ws ≡ true → list_all is_plain ps ≡ true → run ps ws ≡ Some qs → list_all is_plain qs ≡ true
 run_plain [] ps qs h all e = ap (list_all is_plain) (sym (some_same e)) ∙ all
 run_plain (w ∷ ws) ps qs h all e = go (feed ps w) refl (λ rs plain e'. run_plain ws rs qs (and_right (permits Core w) (list_all (permits Core) ws) h) plain e') e
   where
-    go : (o : Option (List Part)) → feed ps w ≡ o → ((rs : List Part) → list_all is_plain rs ≡ true → run rs ws ≡ Some qs → list_all is_plain qs ≡ true)
+    go : (o : Option (List StackSymbol)) → feed ps w ≡ o → ((rs : List StackSymbol) → list_all is_plain rs ≡ true → run rs ws ≡ Some qs → list_all is_plain qs ≡ true)
         → option_and_then (λ rs. run rs ws) o ≡ Some qs → list_all is_plain qs ≡ true
     go None f ih e = absurd (none_some e)
     go (Some rs) f ih e = ih rs (fed_plain ps rs w (and_left (permits Core w) (list_all (permits Core) ws) h) all f) e
 
-finish_plain : (p : Part) (k : List Term) → is_plain p ≡ true → plain (finish p k) ≡ plain k
+finish_plain : (p : StackSymbol) (k : List Term) → is_plain p ≡ true → plain (finish p k) ≡ plain k
 finish_plain Declarations k h = refl
 finish_plain MoreNames k h = refl
 finish_plain OneUnit k h = refl
@@ -285,11 +285,11 @@ finish_plain TheOn k h = refl
 finish_plain EndWatch k h = refl
 finish_plain EndTimed k h = refl
 
-completion_plain : (ps : List Part) → list_all is_plain ps ≡ true → plain (completion ps) ≡ true
+completion_plain : (ps : List StackSymbol) → list_all is_plain ps ≡ true → plain (completion ps) ≡ true
 completion_plain [] h = refl
 completion_plain (p ∷ ps) h = finish_plain p (completion ps) (and_left (is_plain p) (list_all is_plain ps) h) ∙ completion_plain ps (and_right (is_plain p) (list_all is_plain ps) h)
 
 -- What the machine goes through in a language is completed by the language's words.
-pub completion_permitted : (l : Language) (ws : List Word) (qs : List Part) → list_all (permits l) ws ≡ true → run start ws ≡ Some qs → list_all (permits l) (classes (completion qs)) ≡ true
+pub completion_permitted : (l : Language) (ws : List Word) (qs : List StackSymbol) → list_all (permits l) ws ≡ true → run start ws ≡ Some qs → list_all (permits l) (classes (completion qs)) ≡ true
 completion_permitted Whole ws qs h e = all_permitted (classes (completion qs))
 completion_permitted Core ws qs h e = completion_plain qs (run_plain ws start qs h refl e)

@@ -8,7 +8,7 @@ use Rattle.std.proofs.Math.Seq.{take-length}
 use Rattle.std.proofs.lemmas.Bool.{cases_lt}
 use Rattle.program_grammar.specs.declared.words.Language.{Language}
 use Rattle.program_grammar.specs.declared.words.Word.{Word}
-use Rattle.program_grammar.specs.declared.parts.Part.{Part}
+use Rattle.program_grammar.specs.declared.stack_symbols.StackSymbol.{StackSymbol}
 use Rattle.program_grammar.specs.Terms.{Term, class_of, classes}
 use Rattle.program_grammar.specs.Phrases.{ProgramPhrase}
 use Rattle.program_grammar.specs.Spelling.{program}
@@ -33,7 +33,7 @@ spelled_permitted : (l : Language) (p : ProgramPhrase) (ts : List Term) → Spel
 spelled_permitted l p ts s = ap (λ q. list_all (permits l) (classes q)) s.spelled ∙ allowed_permitted l p s.allowed
 
 -- What the machine goes through begins a program.
-goes_begins : (l : Language) (ts : List Term) (qs : List Part) → run_in l start (classes ts) ≡ Some qs → BeginsProgram l ts
+goes_begins : (l : Language) (ts : List Term) (qs : List StackSymbol) → run_in l start (classes ts) ≡ Some qs → BeginsProgram l ts
 goes_begins l ts qs e =
     let (h, goes) = run_in_run l (classes ts) start qs e in
     let (p, spelled) = run_completed ts qs goes in
@@ -51,12 +51,12 @@ program_ends l ts (p, s) =
     let (qs, goes, h) = program_run p in
     (qs, run_in-permitted l (classes ts) start (spelled_permitted l p ts s) ∙ ap (λ q. run start (classes q)) s.spelled ∙ goes, h)
 
-front_goes : (o : Option (List Part)) (ws : List Word) (rs : List Part) → option_and_then (λ qs. run qs ws) o ≡ Some rs → (qs : List Part) × (o ≡ Some qs)
+front_goes : (o : Option (List StackSymbol)) (ws : List Word) (rs : List StackSymbol) → option_and_then (λ qs. run qs ws) o ≡ Some rs → (qs : List StackSymbol) × (o ≡ Some qs)
 front_goes None ws rs e = absurd (none_some e)
 front_goes (Some qs) ws rs e = (qs, refl)
 
 -- It goes through what begins a program.
-begins_goes : (l : Language) (ts : List Term) → BeginsProgram l ts → (qs : List Part) × (run_in l start (classes ts) ≡ Some qs)
+begins_goes : (l : Language) (ts : List Term) → BeginsProgram l ts → (qs : List StackSymbol) × (run_in l start (classes ts) ≡ Some qs)
 begins_goes l ts (more, is) =
     let (rs, e, h) = program_ends l (ts ++ more) is in
     let (permitted, goes) = run_in_run l (classes (ts ++ more)) start rs e in
@@ -77,10 +77,10 @@ shorter_take l m n ts h k b =
 whole_begins : (l : Language) (ts : List Term) → IsProgram l ts → BeginsProgram l ts
 whole_begins l ts is = ([], subst (IsProgram l) (sym (append-nil ts)) is)
 
-both_some : (o : Option (List Part)) (qs : List Part) → o ≡ None → o ≡ Some qs → ⊥
+both_some : (o : Option (List StackSymbol)) (qs : List StackSymbol) → o ≡ None → o ≡ Some qs → ⊥
 both_some o qs a b = cc
 
-both_ended : (o : Option (List Part)) (qs rs : List Part) → o ≡ Some qs → o ≡ Some rs → ended rs ≡ true → ended qs ≡ false → ⊥
+both_ended : (o : Option (List StackSymbol)) (qs rs : List StackSymbol) → o ≡ Some qs → o ≡ Some rs → ended rs ≡ true → ended qs ≡ false → ⊥
 both_ended o qs rs a b f g = let s : Some qs ≡ Some rs = sym a ∙ b in cc
 
 -- Where it stops is the place of the fault.

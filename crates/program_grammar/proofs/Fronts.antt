@@ -6,7 +6,7 @@ use Rattle.program_grammar.specs.Terms.{Term, Name, Number, Signal, Int, In, Ski
 use Rattle.program_grammar.specs.Phrases.{TokenPhrase, AtLeast, AtMost, Exactly, ConstraintPhrase, One, Both, UnitPhrase, Tell, Braces, IfThen, IfElse, LocalSignal, LocalInt, AgentPhrase, Only, Par, NamesPhrase, LastName, MoreName, ItemsPhrase, LastItem, MoreItem, ProgramPhrase, Runs, Signals, Ints}
 use Rattle.program_grammar.specs.Phrases as phrase
 use Rattle.program_grammar.specs.Spelling.{token, constraint, unit, agent, names, items, program}
-use Rattle.program_grammar.specs.Alternatives.{Symbol, AName, ANumber, The, AToken, AConstraint, AUnit, AnAgent, SomeNames, AnItem, SomeItems, AProgram, Fits, Alternative, asserts, denies, clashes, at_least, at_most, exactly, one, both, nothing, tell, braces, if_then, if_else, new_signal, new_int, hence, next, always, when_do, do_watching, time_on, only, par, last_name, more_names, item, last_item, more_items, runs, signals, ints, Is, AreAll, none, some, by, Begins, BeginAll, empty, within, whole, part, past}
+use Rattle.program_grammar.specs.Alternatives.{Symbol, AName, ANumber, The, AToken, AConstraint, AUnit, AnAgent, SomeNames, AnItem, SomeItems, AProgram, MatchesSymbol, Alternative, asserts, denies, clashes, at_least, at_most, exactly, one, both, nothing, tell, braces, if_then, if_else, new_signal, new_int, hence, next, always, when_do, do_watching, time_on, only, par, last_name, more_names, item, last_item, more_items, runs, signals, ints, Is, AreAll, none, some, by, Begins, BeginAll, empty, within, whole, part, past}
 use Rattle.program_grammar.specs.Alternatives.Is.{itself as is_itself}
 use Rattle.program_grammar.specs.Alternatives.Begins.{itself as begins_itself}
 use Rattle.program_grammar.specs.declared.words.Language.{Language}
@@ -51,7 +51,7 @@ front_by l s ss f a p ts more k e = go (p ts more k e)
     go (inl b) = inl (within a b)
     go (inr (us, vs, is, et, ev)) = inr (us, vs, by a is, et, ev)
 
-front_term : (l : Language) (s : Symbol) (t : Term) → Fits s t → Front l s (λ k. t ∷ k)
+front_term : (l : Language) (s : Symbol) (t : Term) → MatchesSymbol s t → Front l s (λ k. t ∷ k)
 front_term l s t f [] more k e = inl empty
 front_term l s t f (v ∷ vs) more k e =
     let head : v ≡ t = cc in

@@ -5,7 +5,7 @@ use Rattle.program_grammar.specs.Terms.{Term, Name, Number, In, Range}
 use Rattle.program_grammar.specs.Phrases.{AtLeast, AtMost, Exactly, One, Both, Tell, Braces, IfThen, IfElse, LocalSignal, LocalInt, Only, Par, LastName, MoreName, LastItem, MoreItem, Runs, Signals, Ints}
 use Rattle.program_grammar.specs.Phrases as phrases
 use Rattle.program_grammar.specs.Spelling.{token, constraint, unit, agent, names, items, program}
-use Rattle.program_grammar.specs.Alternatives.{Symbol, AName, ANumber, The, AToken, AConstraint, AUnit, AnAgent, SomeNames, AnItem, SomeItems, AProgram, Fits, Alternative, asserts, denies, clashes, at_least, at_most, exactly, one, both, nothing, tell, braces, if_then, if_else, new_signal, new_int, hence, next, always, when_do, do_watching, time_on, only, par, last_name, more_names, item, last_item, more_items, runs, signals, ints, Is, AreAll, none, some, by}
+use Rattle.program_grammar.specs.Alternatives.{Symbol, AName, ANumber, The, AToken, AConstraint, AUnit, AnAgent, SomeNames, AnItem, SomeItems, AProgram, MatchesSymbol, Alternative, asserts, denies, clashes, at_least, at_most, exactly, one, both, nothing, tell, braces, if_then, if_else, new_signal, new_int, hence, next, always, when_do, do_watching, time_on, only, par, last_name, more_names, item, last_item, more_items, runs, signals, ints, Is, AreAll, none, some, by}
 use Rattle.program_grammar.specs.Alternatives.Is.{itself as is_itself}
 use Rattle.program_grammar.specs.declared.words.Language.{Language}
 use Rattle.std.proofs.Common.{append_assoc}
@@ -31,7 +31,7 @@ abbrev MeansAll : List Symbol → List Term → Type 0
 MeansAll [] ts = (k : List Term) → ts ++ k ≡ k
 MeansAll (s ∷ ss) ts = (us : List Term) × (vs : List Term) × Means s us × MeansAll ss vs × ((k : List Term) → ts ++ k ≡ us ++ (vs ++ k))
 
-fits_means : (s : Symbol) (t : Term) → Fits s t → Means s (t ∷ [])
+fits_means : (s : Symbol) (t : Term) → MatchesSymbol s t → Means s (t ∷ [])
 fits_means AName t (x, e) = (x, λ k. ap (λ v. v ∷ k) e)
 fits_means ANumber t (x, e) = (x, λ k. ap (λ v. v ∷ k) e)
 fits_means (The v) t e = λ k. ap (λ v. v ∷ k) e

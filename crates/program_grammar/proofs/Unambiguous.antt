@@ -4,10 +4,10 @@ use Rattle.std.specs.Prelude.{map}
 use Rattle.program_grammar.specs.Terms.{Term, classes, Name, Number, Signal, Int, In, Skip, If, Then, Else, New, Hence, Next, Always, When, Do, Watching, Time, On, Semicolon, Comma, Range, Ampersand, Bars, OpenBrace, CloseBrace, Bang, Hash, GreaterEqual, LessEqual, Equal}
 use Rattle.program_grammar.specs.Phrases.{TokenPhrase, AtLeast, AtMost, Exactly, ConstraintPhrase, One, Both, UnitPhrase, Tell, Braces, IfThen, IfElse, LocalSignal, LocalInt, AgentPhrase, Only, Par, NamesPhrase, LastName, MoreName, ItemsPhrase, LastItem, MoreItem, ProgramPhrase, Runs, Signals, Ints}
 use Rattle.program_grammar.specs.Phrases as phrases
-use Rattle.program_grammar.specs.declared.parts.Part.{Part}
-use Rattle.program_grammar.specs.declared.parts.Part.TheVariants.{Declarations, MoreNames, OneUnit, MoreUnits, OneToken, MoreTokens, Bound, Branch, DeclaredName, DeniedName, ClashingName, LocalName, LeastNumber, MostNumber, ExactNumber, TheIn, TheClose, EndTell, EndBody, EndLocal, DeclaredIntName, LocalIntName, DomainIn, LowNumber, TheRange, HighNumber, MoreItems, NewKind, TheDo, TheWatching, TheOn, EndWatch, EndTimed}
+use Rattle.program_grammar.specs.declared.stack_symbols.StackSymbol.{StackSymbol}
+use Rattle.program_grammar.specs.declared.stack_symbols.StackSymbol.TheVariants.{Declarations, MoreNames, OneUnit, MoreUnits, OneToken, MoreTokens, Bound, Branch, DeclaredName, DeniedName, ClashingName, LocalName, LeastNumber, MostNumber, ExactNumber, TheIn, TheClose, EndTell, EndBody, EndLocal, DeclaredIntName, LocalIntName, DomainIn, LowNumber, TheRange, HighNumber, MoreItems, NewKind, TheDo, TheWatching, TheOn, EndWatch, EndTimed}
 use Rattle.program_grammar.specs.Spelling.{program}
-use Rattle.program_grammar.specs.Events.{Event, Takes, Leaves, token_events, constraint_events, unit_events, agent_events, names_events, items_events, program_events, numbered, event_at}
+use Rattle.program_grammar.specs.Events.{Event, Matches, Skips, token_events, constraint_events, unit_events, agent_events, names_events, items_events, program_events, numbered, event_at}
 use Rattle.program_grammar.specs.Machine.{start, trace}
 use Rattle.program_grammar.proofs.Traces.{program_steps}
 use Rattle.program_grammar.proofs.Places.{events_at-program}
@@ -20,7 +20,7 @@ less_first (x ∷ xs) = xs
 tail : {x y : Event} {xs ys : List Event} → x ∷ xs ≡ y ∷ ys → xs ≡ ys
 tail e = ap less_first e
 
-token_one : (p : Part) (t s : TokenPhrase) (k l : List Event) → token_events p t k ≡ token_events p s l → (t ≡ s) × (k ≡ l)
+token_one : (p : StackSymbol) (t s : TokenPhrase) (k l : List Event) → token_events p t k ≡ token_events p s l → (t ≡ s) × (k ≡ l)
 token_one p (phrases.On x) (phrases.On y) k l e = (cc, cc)
 token_one p (phrases.Off x) (phrases.Off y) k l e = (cc, cc)
 token_one p (phrases.Clash x) (phrases.Clash y) k l e = (cc, cc)
@@ -29,7 +29,7 @@ token_one p (AtMost x n) (AtMost y m) k l e = (cc, cc)
 token_one p (Exactly x n) (Exactly y m) k l e = (cc, cc)
 token_one p t s k l e = cc
 
-constraint_one : (p : Part) (c d : ConstraintPhrase) (k l : List Event) → constraint_events p c k ≡ constraint_events p d l → (c ≡ d) × (k ≡ l)
+constraint_one : (p : StackSymbol) (c d : ConstraintPhrase) (k l : List Event) → constraint_events p c k ≡ constraint_events p d l → (c ≡ d) × (k ≡ l)
 constraint_one p (One t) (One s) k l e = let (first, rest) = token_one p t s _ _ e in (ap One first, tail rest)
 constraint_one p (Both t c) (Both s d) k l e =
     let (first, rest) = token_one p t s _ _ e in
@@ -54,16 +54,16 @@ form (phrases.Watching a c) = 9
 form (phrases.TimeOn a c) = 10
 
 abbrev first_form : List Event → ℕ
-first_form (Takes p Skip ∷ es) = 0
-first_form (Takes p OpenBrace ∷ es) = 2
-first_form (Takes p If ∷ es) = 3
-first_form (Takes p New ∷ es) = 4
-first_form (Takes p Hence ∷ es) = 5
-first_form (Takes p Next ∷ es) = 6
-first_form (Takes p Always ∷ es) = 7
-first_form (Takes p When ∷ es) = 8
-first_form (Takes p Do ∷ es) = 9
-first_form (Takes p Time ∷ es) = 10
+first_form (Matches p Skip ∷ es) = 0
+first_form (Matches p OpenBrace ∷ es) = 2
+first_form (Matches p If ∷ es) = 3
+first_form (Matches p New ∷ es) = 4
+first_form (Matches p Hence ∷ es) = 5
+first_form (Matches p Next ∷ es) = 6
+first_form (Matches p Always ∷ es) = 7
+first_form (Matches p When ∷ es) = 8
+first_form (Matches p Do ∷ es) = 9
+first_form (Matches p Time ∷ es) = 10
 first_form _ = 1
 
 token_form : (t : TokenPhrase) (k : List Event) → first_form (token_events OneUnit t k) ≡ 1
@@ -76,8 +76,8 @@ token_form (Exactly x n) k = refl
 
 unit_form : (u : UnitPhrase) (k : List Event) → first_form (unit_events u k) ≡ form u
 unit_form phrases.Skip k = refl
-unit_form (Tell (One t)) k = token_form t (Leaves MoreTokens ∷ Leaves EndTell ∷ k)
-unit_form (Tell (Both t c)) k = token_form t (Takes MoreTokens Ampersand ∷ constraint_events OneToken c (Leaves EndTell ∷ k))
+unit_form (Tell (One t)) k = token_form t (Skips MoreTokens ∷ Skips EndTell ∷ k)
+unit_form (Tell (Both t c)) k = token_form t (Matches MoreTokens Ampersand ∷ constraint_events OneToken c (Skips EndTell ∷ k))
 unit_form (Braces a) k = refl
 unit_form (IfThen c u) k = refl
 unit_form (IfElse c u) k = refl

@@ -21,11 +21,11 @@ pub data Symbol : Type 0 where
   AProgram : Symbol
 
 -- the term alone is the symbol
-abbrev pub Fits : Symbol → Term → Type 0
-Fits AName t = (x : List ℕ) × (t ≡ Name x)
-Fits ANumber t = (n : ℤ) × (t ≡ Number n)
-Fits (The v) t = t ≡ v
-Fits _ t = ⊥
+abbrev pub MatchesSymbol : Symbol → Term → Type 0
+MatchesSymbol AName t = (x : List ℕ) × (t ≡ Name x)
+MatchesSymbol ANumber t = (n : ℤ) × (t ≡ Number n)
+MatchesSymbol (The v) t = t ≡ v
+MatchesSymbol _ t = ⊥
 
 -- the alternatives of each phrase; those of the derived forms are of the whole language alone
 pub data Alternative : Language → Symbol → List Symbol → Type 0 where
@@ -64,7 +64,7 @@ pub data Alternative : Language → Symbol → List Symbol → Type 0 where
 mutual
   -- the terms are the symbol: a term that fits it, or the symbols of one of its alternatives
   pub data Is : Language → Symbol → List Term → Type 0 where
-    itself : {l : Language} {s : Symbol} {t : Term} → Fits s t → Is l s (t ∷ [])
+    itself : {l : Language} {s : Symbol} {t : Term} → MatchesSymbol s t → Is l s (t ∷ [])
     by : {l : Language} {s : Symbol} {parts : List Symbol} {ts : List Term} → Alternative l s parts → AreAll l parts ts → Is l s ts
 
   -- the terms are these symbols, one after another
@@ -76,7 +76,7 @@ mutual
   -- the terms begin the symbol: they are none, or a term that fits it, or they begin one of its alternatives
   pub data Begins : Language → Symbol → List Term → Type 0 where
     empty : {l : Language} {s : Symbol} → Begins l s []
-    itself : {l : Language} {s : Symbol} {t : Term} → Fits s t → Begins l s (t ∷ [])
+    itself : {l : Language} {s : Symbol} {t : Term} → MatchesSymbol s t → Begins l s (t ∷ [])
     within : {l : Language} {s : Symbol} {parts : List Symbol} {ts : List Term} → Alternative l s parts → BeginAll l parts ts → Begins l s ts
 
   -- the terms begin the alternative: they are its first symbols, each whole, and then begin the next one, or are all

@@ -18,6 +18,6 @@ abbrev pub IsReading : Language → List Term → List Step → Type 0
 IsReading language terms steps = (p : ProgramPhrase) × Spells language p terms × AreSteps p steps
 
 -- a fault of syntax is at its place, and want of memory says nothing of the terms
-abbrev pub IsFaultOf : Language → List Term → ParseFault → Type 0
-IsFaultOf language terms (Syntax place) = IsFault language terms place
-IsFaultOf language terms Memory = Unit {0}
+abbrev pub IsSyntaxFault : Language → List Term → ParseFault → Type 0
+IsSyntaxFault language terms (Syntax place) = IsFault language terms place
+IsSyntaxFault language terms Memory = Unit {0}

@@ -1,7 +1,7 @@
 // The laws of the grammar: facts about its definitions, each proved as the contract of a function with no body.
 ghost use Rattle.std.specs.Prelude.{◌≡◌, ◌↔◌, List, [], map};
 ghost use Rattle.program_grammar.specs.Alternatives.{AProgram, Begins};
-ghost use Rattle.program_grammar.specs.Events.{event_at, numbered, program_events, taken};
+ghost use Rattle.program_grammar.specs.Events.{event_at, numbered, program_events, matched_terms};
 ghost use Rattle.program_grammar.specs.Phrases.{ProgramPhrase};
 ghost use Rattle.program_grammar.specs.Programs.{BeginsProgram};
 ghost use Rattle.program_grammar.specs.Spelling.{program};
@@ -23,7 +23,7 @@ pub fn unambiguity_law()
 /// The events of a program take its terms, in order and each once. So its steps, each with the term of its place put
 /// back, are its events, and a pass over the steps that looks its terms up is a pass over the events.
 pub fn places_law()
-    ensures terms { (p : ProgramPhrase) → taken (program_events p) ≡ program p [] }
+    ensures terms { (p : ProgramPhrase) → matched_terms (program_events p) ≡ program p [] }
     ensures events { (p : ProgramPhrase) →
         map (event_at (program p [])) (numbered 0 (program_events p)) ≡ program_events p }
 {}

@@ -7,7 +7,7 @@
 
 mod laws;
 mod machine;
-mod parts;
+mod stack_symbols;
 mod table;
 #[cfg(test)]
 mod tests;
@@ -15,5 +15,5 @@ mod words;
 
 pub use laws::{beginnings_law, places_law, unambiguity_law};
 pub use machine::{ParseFault, Step, parse};
-pub use parts::Part;
+pub use stack_symbols::StackSymbol;
 pub use words::{Language, Word};

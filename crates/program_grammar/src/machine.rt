@@ -3,12 +3,12 @@ ghost use Rattle.std.specs.Prelude.{◌≡◌, ◌++◌, ◌<◌, ◌^◌, IfErr
 ghost use Rattle.program_grammar.specs.Machine.{Ends, StopsAt, ended, feed_in, start, trace, word_steps};
 ghost use Rattle.program_grammar.specs.Phrases.{ProgramPhrase};
 ghost use Rattle.program_grammar.specs.Programs.{Spells};
-ghost use Rattle.program_grammar.specs.Reading.{AreSteps, IsFaultOf, IsReading};
+ghost use Rattle.program_grammar.specs.Reading.{AreSteps, IsSyntaxFault, IsReading};
 ghost use Rattle.program_grammar.specs.Terms.{Term, classes};
 ghost use Rattle.program_grammar.specs.declared.machine.ParseFault as ParseFault;
-ghost use Rattle.program_grammar.specs.declared.machine.Step.TheVariants.{Left};
+ghost use Rattle.program_grammar.specs.declared.machine.Step.TheVariants.{Skipped};
 
-use crate::parts::{Part, may_be_absent};
+use crate::stack_symbols::{StackSymbol, may_be_absent};
 use crate::table::parts_after;
 use crate::words::{Language, Word, is_permitted};
 use std::alloc::{AllocError, Global};
@@ -17,9 +17,9 @@ use std::alloc::{AllocError, Global};
 #[derive(Clone, Copy, Debug, PartialEq, Eq)]
 pub enum Step {
     /// The part took the word at this place.
-    Took(Part, u32),
+    Matched(StackSymbol, u32),
     /// The part was left without a word.
-    Left(Part),
+    Skipped(StackSymbol),
 }
 
 /// Why words were not read.
@@ -32,7 +32,7 @@ pub enum ParseFault {
 }
 
 /// Puts what is to come first on top.
-fn expect(parts: &mut Vec<Part>, rest: &[Part]) -> Result<(), AllocError>
+fn expect(parts: &mut Vec<StackSymbol>, rest: &[StackSymbol]) -> Result<(), AllocError>
     ensures { OnOk result (reverse parts.new.items ≡ rest.now ++ reverse parts.old.items) }
 {
     let mut left = rest.len();
@@ -43,10 +43,10 @@ fn expect(parts: &mut Vec<Part>, rest: &[Part]) -> Result<(), AllocError>
     Ok(())
 }
 
-/// Takes the word at this place. Says whether it may come next.
-fn take_word(
+/// Matches the word at this place. Says whether it may come next.
+fn match_word(
     language: Language,
-    parts: &mut Vec<Part>,
+    parts: &mut Vec<StackSymbol>,
     steps: &mut Vec<Step>,
     place: u32,
     word: Word,
@@ -62,30 +62,30 @@ fn take_word(
     }
     while let Some(part) = parts.pop() {
         if let Some(rest) = parts_after(part, word) {
-            steps.push(Step::Took(part, place))?;
+            steps.push(Step::Matched(part, place))?;
             expect(parts, rest)?;
             return Ok(true);
         }
         if !may_be_absent(part) {
             return Ok(false);
         }
-        steps.push(Step::Left(part))?;
+        steps.push(Step::Skipped(part))?;
     }
     Ok(false)
 }
 
-/// Leaves the parts that are still to come.
-fn leave_all(parts: &mut Vec<Part>, steps: &mut Vec<Step>) -> Result<(), AllocError>
-    ensures { OnOk result (steps.new.items ≡ steps.old.items ++ map Left (reverse parts.old.items)) }
+/// Skips the parts that are still to come.
+fn skip_all(parts: &mut Vec<StackSymbol>, steps: &mut Vec<Step>) -> Result<(), AllocError>
+    ensures { OnOk result (steps.new.items ≡ steps.old.items ++ map Skipped (reverse parts.old.items)) }
 {
     while let Some(part) = parts.pop() {
-        steps.push(Step::Left(part))?;
+        steps.push(Step::Skipped(part))?;
     }
     Ok(())
 }
 
 /// Whether nothing more need come.
-fn is_ended(parts: &[Part]) -> bool
+fn is_ended(parts: &[StackSymbol]) -> bool
     ensures { result ≡ ended parts.now }
 {
     parts.iter().all(|part| may_be_absent(*part))
@@ -106,18 +106,18 @@ fn run_machine(
     let mut steps = Vec::new(alloc);
     expect(
         &mut parts,
-        &[Part::Declarations, Part::OneUnit, Part::MoreUnits],
+        &[StackSymbol::Declarations, StackSymbol::OneUnit, StackSymbol::MoreUnits],
     )?;
     for (place, word) in words.iter().enumerate() {
         let place = place as u32;
-        if !take_word(language, &mut parts, &mut steps, place, *word)? {
+        if !match_word(language, &mut parts, &mut steps, place, *word)? {
             return Ok(Err(place));
         }
     }
     if !is_ended(&parts) {
         return Ok(Err(words.len() as u32));
     }
-    leave_all(&mut parts, &mut steps)?;
+    skip_all(&mut parts, &mut steps)?;
     Ok(Ok(steps))
 }
 
@@ -135,7 +135,7 @@ pub fn parse(alloc: Global, language: Language, words: &[Word]) -> Result<Vec<St
         → IfOk result (λ steps. IsReading language terms steps.items) }
     // A refusal says where the words stop to begin a program.
     ensures fault { (terms : List Term) → classes terms ≡ words.now
-        → IfErr result (IsFaultOf language terms) }
+        → IfErr result (IsSyntaxFault language terms) }
     // A program is read, and no other program has its words.
     ensures only { (terms : List Term) (p : ProgramPhrase) → classes terms ≡ words.now
         → Spells language p terms

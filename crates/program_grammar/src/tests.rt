@@ -24,16 +24,16 @@ fn fault(alloc: Global, language: Language, words: &[Word]) -> Result<Option<u32
 fn a_par_of_three_is_read_from_left_to_right(rt: HostRuntime) -> Result<(), Fail> {
     let steps = parse(rt.alloc(), Language::Core, &[Skip, Bars, Name, Bars, Skip])?;
     let expected = [
-        Step::Left(Part::Declarations),
-        Step::Took(Part::OneUnit, 0),
-        Step::Took(Part::MoreUnits, 1),
-        Step::Took(Part::OneUnit, 2),
-        Step::Left(Part::Bound),
-        Step::Left(Part::MoreTokens),
-        Step::Left(Part::EndTell),
-        Step::Took(Part::MoreUnits, 3),
-        Step::Took(Part::OneUnit, 4),
-        Step::Left(Part::MoreUnits),
+        Step::Skipped(StackSymbol::Declarations),
+        Step::Matched(StackSymbol::OneUnit, 0),
+        Step::Matched(StackSymbol::MoreUnits, 1),
+        Step::Matched(StackSymbol::OneUnit, 2),
+        Step::Skipped(StackSymbol::Bound),
+        Step::Skipped(StackSymbol::MoreTokens),
+        Step::Skipped(StackSymbol::EndTell),
+        Step::Matched(StackSymbol::MoreUnits, 3),
+        Step::Matched(StackSymbol::OneUnit, 4),
+        Step::Skipped(StackSymbol::MoreUnits),
     ];
     assert_eq!(rt; steps.as_slice(), expected.as_slice());
     Ok(())

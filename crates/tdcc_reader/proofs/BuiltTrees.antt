@@ -6,9 +6,9 @@ use Rattle.std.proofs.lemmas.List.Edits.{insert-append_right}
 use Rattle.program_grammar.specs.Terms.{Name, Number, Then, Else, Do, Watching, On, Ampersand, Bars, CloseBrace, Bang, Hash, GreaterEqual, LessEqual, Equal}
 use Rattle.program_grammar.specs.Phrases.{TokenPhrase, AtLeast, AtMost, Exactly, ConstraintPhrase, One, Both, UnitPhrase, Tell, Braces, IfThen, IfElse, LocalSignal, LocalInt, AgentPhrase, Only, Par, NamesPhrase, LastName, MoreName, ItemsPhrase, LastItem, MoreItem, ProgramPhrase, Runs, Signals, Ints}
 use Rattle.program_grammar.specs.Phrases as phrase
-use Rattle.program_grammar.specs.declared.parts.Part.{Part}
-use Rattle.program_grammar.specs.declared.parts.Part.TheVariants.{OneUnit, MoreUnits, OneToken, MoreTokens, Bound, Branch, DeniedName, ClashingName, LeastNumber, MostNumber, ExactNumber, TheClose, EndTell, EndBody, EndLocal, TheDo, TheWatching, TheOn, EndWatch, EndTimed}
-use Rattle.program_grammar.specs.Events.{Event, Takes, Leaves, token_events, constraint_events, unit_events, agent_events, names_events, items_events, program_events}
+use Rattle.program_grammar.specs.declared.stack_symbols.StackSymbol.{StackSymbol}
+use Rattle.program_grammar.specs.declared.stack_symbols.StackSymbol.TheVariants.{OneUnit, MoreUnits, OneToken, MoreTokens, Bound, Branch, DeniedName, ClashingName, LeastNumber, MostNumber, ExactNumber, TheClose, EndTell, EndBody, EndLocal, TheDo, TheWatching, TheOn, EndWatch, EndTimed}
+use Rattle.program_grammar.specs.Events.{Event, Matches, Skips, token_events, constraint_events, unit_events, agent_events, names_events, items_events, program_events}
 use Rattle.tdcc_reader.specs.declared.draft.DraftKind.{DraftKind}
 use Rattle.tdcc_reader.specs.declared.draft.DraftKind.TheVariants as kind
 use Rattle.agent_core.specs.Agents.{Constraint}
@@ -21,24 +21,24 @@ use Rattle.tdcc_reader.specs.Builds.{IsBuilt}
 -- the pass looks at no place
 abbrev acts : List Event → pass.Built → pass.Built
 acts [] b = b
-acts (Takes p t ∷ es) b = acts es (pass.takes_built p t b)
-acts (Leaves p ∷ es) b = acts es (pass.leaves_built p b)
+acts (Matches p t ∷ es) b = acts es (pass.takes_built p t b)
+acts (Skips p ∷ es) b = acts es (pass.leaves_built p b)
 
 over_acts : (es : List Event) (at : ℕ) (b : pass.Built) → over_events pass.build_pass at es b ≡ acts es b
 over_acts [] at b = refl
-over_acts (Takes p t ∷ es) at b = over_acts es (at + 1) (pass.takes_built p t b)
-over_acts (Leaves p ∷ es) at b = over_acts es at (pass.leaves_built p b)
+over_acts (Matches p t ∷ es) at b = over_acts es (at + 1) (pass.takes_built p t b)
+over_acts (Skips p ∷ es) at b = over_acts es at (pass.leaves_built p b)
 
 -- between phrases nothing waits
 abbrev B : List Entry → Constraint → List ℕ → List Placed → List Declared → ℕ → pass.Built
 B f a s n c d = pass.built f a s n c pass.Nothing d
 
 -- a part that takes the first term of a token
-abbrev Begins : Part → Type 0
+abbrev Begins : StackSymbol → Type 0
 Begins p = (x : List ℕ) (rest : List Event) (f : List Entry) (a : Constraint) (s : List ℕ) (n : List Placed) (c : List Declared) (d : ℕ)
-    → (acts (Takes p (Name x) ∷ rest) (B f a s n c d) ≡ acts rest (pass.built f a s n c (pass.Subject (cell_of n x)) d))
-    × (acts (Takes p Bang ∷ rest) (B f a s n c d) ≡ acts rest (B f a s n c d))
-    × (acts (Takes p Hash ∷ rest) (B f a s n c d) ≡ acts rest (B f a s n c d))
+    → (acts (Matches p (Name x) ∷ rest) (B f a s n c d) ≡ acts rest (pass.built f a s n c (pass.Subject (cell_of n x)) d))
+    × (acts (Matches p Bang ∷ rest) (B f a s n c d) ≡ acts rest (B f a s n c d))
+    × (acts (Matches p Hash ∷ rest) (B f a s n c d) ≡ acts rest (B f a s n c d))
 
 unit_begins : Begins OneUnit
 unit_begins x rest f a s n c d = (refl, refl, refl)
@@ -46,20 +46,20 @@ unit_begins x rest f a s n c d = (refl, refl, refl)
 token_begins : Begins OneToken
 token_begins x rest f a s n c d = (refl, refl, refl)
 
-token_built : (p : Part) → Begins p → (t : TokenPhrase) (rest : List Event) (f : List Entry) (a : Constraint) (s : List ℕ) (n : List Placed) (c : List Declared) (d : ℕ)
+token_built : (p : StackSymbol) → Begins p → (t : TokenPhrase) (rest : List Event) (f : List Entry) (a : Constraint) (s : List ℕ) (n : List Placed) (c : List Declared) (d : ℕ)
     → acts (token_events p t rest) (B f a s n c d) ≡ acts rest (B f (a ++ token_ask n t) s n c d)
-token_built p b (phrase.On x) rest f a s n c d = (b x (Leaves Bound ∷ rest) f a s n c d).0
-token_built p b (phrase.Off x) rest f a s n c d = (b x (Takes DeniedName (Name x) ∷ rest) f a s n c d).1
-token_built p b (phrase.Clash x) rest f a s n c d = (b x (Takes ClashingName (Name x) ∷ rest) f a s n c d).2
-token_built p b (AtLeast x k) rest f a s n c d = (b x (Takes Bound GreaterEqual ∷ Takes LeastNumber (Number k) ∷ rest) f a s n c d).0
-token_built p b (AtMost x k) rest f a s n c d = (b x (Takes Bound LessEqual ∷ Takes MostNumber (Number k) ∷ rest) f a s n c d).0
-token_built p b (Exactly x k) rest f a s n c d = (b x (Takes Bound Equal ∷ Takes ExactNumber (Number k) ∷ rest) f a s n c d).0
+token_built p b (phrase.On x) rest f a s n c d = (b x (Skips Bound ∷ rest) f a s n c d).0
+token_built p b (phrase.Off x) rest f a s n c d = (b x (Matches DeniedName (Name x) ∷ rest) f a s n c d).1
+token_built p b (phrase.Clash x) rest f a s n c d = (b x (Matches ClashingName (Name x) ∷ rest) f a s n c d).2
+token_built p b (AtLeast x k) rest f a s n c d = (b x (Matches Bound GreaterEqual ∷ Matches LeastNumber (Number k) ∷ rest) f a s n c d).0
+token_built p b (AtMost x k) rest f a s n c d = (b x (Matches Bound LessEqual ∷ Matches MostNumber (Number k) ∷ rest) f a s n c d).0
+token_built p b (Exactly x k) rest f a s n c d = (b x (Matches Bound Equal ∷ Matches ExactNumber (Number k) ∷ rest) f a s n c d).0
 
-constraint_built : (q : ConstraintPhrase) (p : Part) → Begins p → (rest : List Event) (f : List Entry) (a : Constraint) (s : List ℕ) (n : List Placed) (c : List Declared) (d : ℕ)
+constraint_built : (q : ConstraintPhrase) (p : StackSymbol) → Begins p → (rest : List Event) (f : List Entry) (a : Constraint) (s : List ℕ) (n : List Placed) (c : List Declared) (d : ℕ)
     → acts (constraint_events p q rest) (B f a s n c d) ≡ acts rest (B f (a ++ ask_of n q) s n c d)
-constraint_built (One t) p b rest f a s n c d = token_built p b t (Leaves MoreTokens ∷ rest) f a s n c d
+constraint_built (One t) p b rest f a s n c d = token_built p b t (Skips MoreTokens ∷ rest) f a s n c d
 constraint_built (Both t q) p b rest f a s n c d =
-    token_built p b t (Takes MoreTokens Ampersand ∷ constraint_events OneToken q rest) f a s n c d
+    token_built p b t (Matches MoreTokens Ampersand ∷ constraint_events OneToken q rest) f a s n c d
     ∙ constraint_built q OneToken token_begins rest f (a ++ token_ask n t) s n c d
     ∙ ap (λ l. acts rest (B f l s n c d)) (append_assoc a (token_ask n t) (ask_of n q))
 
@@ -73,16 +73,16 @@ AgentBuilt g = (rest : List Event) (f : List Entry) (s : List ℕ) (n : List Pla
 
 -- a form in front of its body
 under : (u : UnitPhrase) (e : Entry) (rest : List Event) (f : List Entry) (s : List ℕ) (n : List Placed) (c : List Declared) (d : ℕ) → UnitBuilt u → length c + length (unit_cells u) ≤ 4294967295
-    → acts (unit_events u (Leaves EndBody ∷ rest)) (B (f ++ e ∷ []) [] s n c d) ≡ acts rest (B (f ++ e ∷ drafts (unit_tree u n (length c))) [] s n (c ++ unit_cells u) d)
-under u e rest f s n c d ih h = ih (Leaves EndBody ∷ rest) (f ++ e ∷ []) s n c d h ∙ ap (λ l. acts rest (B l [] s n (c ++ unit_cells u) d)) (append_assoc f (e ∷ []) (drafts (unit_tree u n (length c))))
+    → acts (unit_events u (Skips EndBody ∷ rest)) (B (f ++ e ∷ []) [] s n c d) ≡ acts rest (B (f ++ e ∷ drafts (unit_tree u n (length c))) [] s n (c ++ unit_cells u) d)
+under u e rest f s n c d ih h = ih (Skips EndBody ∷ rest) (f ++ e ∷ []) s n c d h ∙ ap (λ l. acts rest (B l [] s n (c ++ unit_cells u) d)) (append_assoc f (e ∷ []) (drafts (unit_tree u n (length c))))
 
 -- an ask and then a body
 asked : (q : ConstraintPhrase) (u : UnitPhrase) (k : DraftKind) (mid : Event) → ((rest : List Event) (f : List Entry) (a : Constraint) (s : List ℕ) (n : List Placed) (c : List Declared) (d : ℕ) → acts (mid ∷ rest) (B f a s n c d) ≡ acts rest (B (f ++ entry k a ∷ []) [] s n c d))
     → (rest : List Event) (f : List Entry) (s : List ℕ) (n : List Placed) (c : List Declared) (d : ℕ) → UnitBuilt u → length c + length (unit_cells u) ≤ 4294967295
-    → acts (constraint_events OneToken q (mid ∷ unit_events u (Leaves EndBody ∷ rest))) (B f [] s n c d) ≡ acts rest (B (f ++ entry k (ask_of n q) ∷ drafts (unit_tree u n (length c))) [] s n (c ++ unit_cells u) d)
+    → acts (constraint_events OneToken q (mid ∷ unit_events u (Skips EndBody ∷ rest))) (B f [] s n c d) ≡ acts rest (B (f ++ entry k (ask_of n q) ∷ drafts (unit_tree u n (length c))) [] s n (c ++ unit_cells u) d)
 asked q u k mid on rest f s n c d ih h =
-    constraint_built q OneToken token_begins (mid ∷ unit_events u (Leaves EndBody ∷ rest)) f [] s n c d
-    ∙ on (unit_events u (Leaves EndBody ∷ rest)) f (ask_of n q) s n c d
+    constraint_built q OneToken token_begins (mid ∷ unit_events u (Skips EndBody ∷ rest)) f [] s n c d
+    ∙ on (unit_events u (Skips EndBody ∷ rest)) f (ask_of n q) s n c d
     ∙ under u (entry k (ask_of n q)) rest f s n c d ih h
 
 length_more : (c : List Declared) (v : Declared) → length (c ++ v ∷ []) ≡ length c + 1
@@ -96,11 +96,11 @@ rest_fits c v more h = let e : length (v ∷ more) ≡ length more + 1 = omega a
 
 -- a new local cell in front of its body
 local_built : (x : List ℕ) (v : Declared) (u : UnitPhrase) (rest : List Event) (f : List Entry) (s : List ℕ) (n : List Placed) (c : List Declared) (d : ℕ) → UnitBuilt u → length c + length (v ∷ unit_cells u) ≤ 4294967295
-    → acts (unit_events u (Leaves EndLocal ∷ rest)) (B (f ++ entry (kind.New (pass.next_cell c)) [] ∷ []) [] s (placed x (pass.next_cell c) ∷ n) (c ++ v ∷ []) d)
+    → acts (unit_events u (Skips EndLocal ∷ rest)) (B (f ++ entry (kind.New (pass.next_cell c)) [] ∷ []) [] s (placed x (pass.next_cell c) ∷ n) (c ++ v ∷ []) d)
     ≡ acts rest (B (f ++ entry (kind.New (length c)) [] ∷ drafts (unit_tree u (placed x (length c) ∷ n) (length c + 1))) [] s n (c ++ v ∷ unit_cells u) d)
 local_built x v u rest f s n c d ih h =
-    ap (λ k. acts (unit_events u (Leaves EndLocal ∷ rest)) (B (f ++ entry (kind.New k) [] ∷ []) [] s (placed x k ∷ n) (c ++ v ∷ []) d)) (next_is c v (unit_cells u) h)
-    ∙ ih (Leaves EndLocal ∷ rest) (f ++ entry (kind.New (length c)) [] ∷ []) s (placed x (length c) ∷ n) (c ++ v ∷ []) d (rest_fits c v (unit_cells u) h)
+    ap (λ k. acts (unit_events u (Skips EndLocal ∷ rest)) (B (f ++ entry (kind.New k) [] ∷ []) [] s (placed x k ∷ n) (c ++ v ∷ []) d)) (next_is c v (unit_cells u) h)
+    ∙ ih (Skips EndLocal ∷ rest) (f ++ entry (kind.New (length c)) [] ∷ []) s (placed x (length c) ∷ n) (c ++ v ∷ []) d (rest_fits c v (unit_cells u) h)
     ∙ ap (λ l. acts rest (B l [] s n ((c ++ v ∷ []) ++ unit_cells u) d)) (append_assoc f (entry (kind.New (length c)) [] ∷ []) (drafts (unit_tree u (placed x (length c) ∷ n) (length (c ++ v ∷ []))))
     ∙ ap (λ k. f ++ entry (kind.New (length c)) [] ∷ drafts (unit_tree u (placed x (length c) ∷ n) k)) (length_more c v))
     ∙ ap (λ l. acts rest (B (f ++ entry (kind.New (length c)) [] ∷ drafts (unit_tree u (placed x (length c) ∷ n) (length c + 1))) [] s n l d)) (append_assoc c (v ∷ []) (unit_cells u))
@@ -125,7 +125,7 @@ length_seam : (f g : List Entry) (e : Entry) → length (f ++ g) + 1 ≡ length 
 length_seam f g e = omega (arith, length-append f g, length-append f (e ∷ g), length_cons e g)
 
 left_built : (f g : List Entry) (rest : List Event) (s : List ℕ) (n : List Placed) (c : List Declared) (d : ℕ)
-    → acts (Takes MoreUnits Bars ∷ rest) (B (f ++ g) [] (length f ∷ s) n c d)
+    → acts (Matches MoreUnits Bars ∷ rest) (B (f ++ g) [] (length f ∷ s) n c d)
     ≡ acts rest (B (f ++ entry (kind.Par (1 + length g)) [] ∷ g) [] (length (f ++ entry (kind.Par (1 + length g)) [] ∷ g) ∷ s) n c d)
 left_built f g rest s n c d =
     ap (λ k. acts rest (B (insert (f ++ g) k (entry (kind.Par ((length (f ++ g) + 1) - k)) [])) [] ((length (f ++ g) + 1) ∷ s) n c d)) (left_place f g)
@@ -165,23 +165,23 @@ right_fits c v w h = omega (arith, length-append v w, length-append c v)
 mutual
   unit_built : (u : UnitPhrase) → UnitBuilt u
   unit_built phrase.Skip rest f s n c d h = ap (λ l. acts rest (B (f ++ entry kind.Skip [] ∷ []) [] s n l d)) (sym (append-nil c))
-  unit_built (Tell q) rest f s n c d h = constraint_built q OneUnit unit_begins (Leaves EndTell ∷ rest) f [] s n c d ∙ ap (λ l. acts rest (B (f ++ entry kind.Tell (ask_of n q) ∷ []) [] s n l d)) (sym (append-nil c))
-  unit_built (Braces g) rest f s n c d h = agent_built g (Takes TheClose CloseBrace ∷ rest) f s n c d h
-  unit_built (IfThen q u) rest f s n c d h = asked q u kind.Then (Takes Branch Then) (λ rest f a s n c d. refl) rest f s n c d (unit_built u) h
-  unit_built (IfElse q u) rest f s n c d h = asked q u kind.Else (Takes Branch Else) (λ rest f a s n c d. refl) rest f s n c d (unit_built u) h
+  unit_built (Tell q) rest f s n c d h = constraint_built q OneUnit unit_begins (Skips EndTell ∷ rest) f [] s n c d ∙ ap (λ l. acts rest (B (f ++ entry kind.Tell (ask_of n q) ∷ []) [] s n l d)) (sym (append-nil c))
+  unit_built (Braces g) rest f s n c d h = agent_built g (Matches TheClose CloseBrace ∷ rest) f s n c d h
+  unit_built (IfThen q u) rest f s n c d h = asked q u kind.Then (Matches Branch Then) (λ rest f a s n c d. refl) rest f s n c d (unit_built u) h
+  unit_built (IfElse q u) rest f s n c d h = asked q u kind.Else (Matches Branch Else) (λ rest f a s n c d. refl) rest f s n c d (unit_built u) h
   unit_built (LocalSignal x u) rest f s n c d h = local_built x (signal x) u rest f s n c d (unit_built u) h
   unit_built (LocalInt x l k u) rest f s n c d h = local_built x (number x l k) u rest f s n c d (unit_built u) h
   unit_built (phrase.Hence u) rest f s n c d h = under u (entry kind.Hence []) rest f s n c d (unit_built u) h
   unit_built (phrase.Next u) rest f s n c d h = under u (entry kind.Next []) rest f s n c d (unit_built u) h
   unit_built (phrase.Always u) rest f s n c d h = under u (entry kind.Always []) rest f s n c d (unit_built u) h
-  unit_built (phrase.When q u) rest f s n c d h = asked q u kind.When (Takes TheDo Do) (λ rest f a s n c d. refl) rest f s n c d (unit_built u) h
-  unit_built (phrase.Watching a q) rest f s n c d h = ended a q kind.Watch (Takes TheWatching Watching) (Leaves EndWatch) (λ rest b. refl) (λ rest b. refl) rest f s n c d (agent_built a) h
-  unit_built (phrase.TimeOn a q) rest f s n c d h = ended a q kind.Time (Takes TheOn On) (Leaves EndTimed) (λ rest b. refl) (λ rest b. refl) rest f s n c d (agent_built a) h
+  unit_built (phrase.When q u) rest f s n c d h = asked q u kind.When (Matches TheDo Do) (λ rest f a s n c d. refl) rest f s n c d (unit_built u) h
+  unit_built (phrase.Watching a q) rest f s n c d h = ended a q kind.Watch (Matches TheWatching Watching) (Skips EndWatch) (λ rest b. refl) (λ rest b. refl) rest f s n c d (agent_built a) h
+  unit_built (phrase.TimeOn a q) rest f s n c d h = ended a q kind.Time (Matches TheOn On) (Skips EndTimed) (λ rest b. refl) (λ rest b. refl) rest f s n c d (agent_built a) h
 
   agent_built : (g : AgentPhrase) → AgentBuilt g
-  agent_built (Only u) rest f s n c d h = unit_built u (Leaves MoreUnits ∷ rest) f (length f ∷ s) n c d h
+  agent_built (Only u) rest f s n c d h = unit_built u (Skips MoreUnits ∷ rest) f (length f ∷ s) n c d h
   agent_built (Par u g) rest f s n c d h =
-      unit_built u (Takes MoreUnits Bars ∷ agent_events g rest) f (length f ∷ s) n c d (left_fits c (unit_cells u) (agent_cells g) h)
+      unit_built u (Matches MoreUnits Bars ∷ agent_events g rest) f (length f ∷ s) n c d (left_fits c (unit_cells u) (agent_cells g) h)
       ∙ left_built f (drafts (unit_tree u n (length c))) (agent_events g rest) s n (c ++ unit_cells u) d
       ∙ agent_built g rest (f ++ entry (kind.Par (1 + length (drafts (unit_tree u n (length c))))) [] ∷ drafts (unit_tree u n (length c))) s n (c ++ unit_cells u) d (right_fits c (unit_cells u) (agent_cells g) h)
       ∙ right_built f (drafts (unit_tree u n (length c))) (entry (kind.Par (1 + length (drafts (unit_tree u n (length c))))) []) g rest s n c (unit_cells u) d

@@ -5,8 +5,8 @@ use Rattle.std.proofs.lemmas.Bool.{ltb-true, lt-ltb}
 use Rattle.program_grammar.specs.Terms.{Number, Then, Else, Do, Watching, On, Ampersand, Bars, CloseBrace, Equal}
 use Rattle.program_grammar.specs.Phrases.{TokenPhrase, AtLeast, AtMost, Exactly, ConstraintPhrase, One, Both, UnitPhrase, Tell, Braces, IfThen, IfElse, LocalSignal, LocalInt, AgentPhrase, Only, Par, NamesPhrase, LastName, MoreName, ItemsPhrase, LastItem, MoreItem, ProgramPhrase, Runs, Signals, Ints}
 use Rattle.program_grammar.specs.Phrases as phrase
-use Rattle.program_grammar.specs.declared.parts.Part.TheVariants.{OneUnit, MoreUnits, OneToken, MoreTokens, Bound, ExactNumber, Branch, TheClose, EndTell, EndBody, EndLocal, TheDo, TheWatching, TheOn, EndWatch, EndTimed}
-use Rattle.program_grammar.specs.Events.{Event, Takes, Leaves, token_events, constraint_events, unit_events, agent_events, names_events, items_events, program_events}
+use Rattle.program_grammar.specs.declared.stack_symbols.StackSymbol.TheVariants.{OneUnit, MoreUnits, OneToken, MoreTokens, Bound, ExactNumber, Branch, TheClose, EndTell, EndBody, EndLocal, TheDo, TheWatching, TheOn, EndWatch, EndTimed}
+use Rattle.program_grammar.specs.Events.{Event, Matches, Skips, token_events, constraint_events, unit_events, agent_events, names_events, items_events, program_events}
 use Rattle.tdcc_reader.specs.declared.dialect.Dialect.{Dialect}
 use Rattle.tdcc_reader.specs.declared.dialect.Dialect.TheVariants as dialects
 use Rattle.tdcc_reader.specs.declared.limits.Limit.{Limit}
@@ -35,7 +35,7 @@ one_more m n h = let l = ltb-true m (n + 1) h in lt-ltb m (n + 2) (omega arith)
 
 -- an equation is looked at as one token, and in a core text as two
 equation_limited : (dialect : Dialect) (k : ℤ) (rest : List Event) (at d n : ℕ) (f : Option Limit)
-    → over dialect (at + 1) (Takes Bound Equal ∷ Takes ExactNumber (Number k) ∷ rest) d (n + 1) (first f (many_limit dialect (n + 1) at)) ≡ over dialect (at + 3) rest d (n + equation_count dialect) (first f (many_limit dialect (n + equation_count dialect) at))
+    → over dialect (at + 1) (Matches Bound Equal ∷ Matches ExactNumber (Number k) ∷ rest) d (n + 1) (first f (many_limit dialect (n + 1) at)) ≡ over dialect (at + 3) rest d (n + equation_count dialect) (first f (many_limit dialect (n + equation_count dialect) at))
 equation_limited dialects.Program k rest at d n f = same dialects.Program rest d (n + 1) (omega arith) refl
 equation_limited dialects.Core k rest at d n f =
     let two : n + 1 + 1 ≡ n + 2 = omega arith in
@@ -56,9 +56,9 @@ token_limited dialect (AtMost x k) rest at d n f = same dialect rest d (n + 1) (
 token_limited dialect (Exactly x k) rest at d n f = equation_limited dialect k rest at d n f
 
 constraint_limited : (dialect : Dialect) (c : ConstraintPhrase) (rest : List Event) (at d n : ℕ) (f : Option Limit) → over dialect at (constraint_events OneToken c rest) d n f ≡ over dialect (at + constraint_width c) rest d 0 (first f (constraint_limit dialect c n at))
-constraint_limited dialect (One t) rest at d n f = token_limited dialect t (Leaves MoreTokens ∷ rest) at d n f
+constraint_limited dialect (One t) rest at d n f = token_limited dialect t (Skips MoreTokens ∷ rest) at d n f
 constraint_limited dialect (Both t c) rest at d n f =
-    token_limited dialect t (Takes MoreTokens Ampersand ∷ constraint_events OneToken c rest) at d n f
+    token_limited dialect t (Matches MoreTokens Ampersand ∷ constraint_events OneToken c rest) at d n f
     ∙ constraint_limited dialect c rest (at + token_width t + 1) d (n + token_count dialect t) (first f (many_limit dialect (n + token_count dialect t) at))
     ∙ same dialect rest d 0 (omega arith) (first_assoc f (many_limit dialect (n + token_count dialect t) at) (constraint_limit dialect c (n + token_count dialect t) (at + token_width t + 1)))
 
@@ -72,8 +72,8 @@ token_unit dialect (AtMost x k) rest at d n f = refl
 token_unit dialect (Exactly x k) rest at d n f = refl
 
 constraint_unit : (dialect : Dialect) (c : ConstraintPhrase) (rest : List Event) (at d n : ℕ) (f : Option Limit) → over dialect at (constraint_events OneUnit c rest) d n f ≡ over dialect at (constraint_events OneToken c rest) d n (first f (deep_limit dialect d at))
-constraint_unit dialect (One t) rest at d n f = token_unit dialect t (Leaves MoreTokens ∷ rest) at d n f
-constraint_unit dialect (Both t c) rest at d n f = token_unit dialect t (Takes MoreTokens Ampersand ∷ constraint_events OneToken c rest) at d n f
+constraint_unit dialect (One t) rest at d n f = token_unit dialect t (Skips MoreTokens ∷ rest) at d n f
+constraint_unit dialect (Both t c) rest at d n f = token_unit dialect t (Matches MoreTokens Ampersand ∷ constraint_events OneToken c rest) at d n f
 
 abbrev UnitLimited : Dialect → UnitPhrase → Type 0
 UnitLimited dialect u = (rest : List Event) (at d : ℕ) (f : Option Limit) → over dialect at (unit_events u rest) d 0 f ≡ over dialect (at + unit_width u) rest d 0 (first f (unit_limit dialect u d at))
@@ -94,22 +94,22 @@ body_limited dialect u ih mark up rest at to d g f et =
     ∙ back_up dialect rest (at + unit_width u) d (first (first f g) (unit_limit dialect u (d + 1) at))
     ∙ same dialect rest d 0 et (first_assoc f g (unit_limit dialect u (d + 1) at))
 
-end_body : (dialect : Dialect) (rest : List Event) (at d n : ℕ) (f : Option Limit) → over dialect at (Leaves EndBody ∷ rest) d n f ≡ over dialect at rest (d - 1) n f
+end_body : (dialect : Dialect) (rest : List Event) (at d n : ℕ) (f : Option Limit) → over dialect at (Skips EndBody ∷ rest) d n f ≡ over dialect at rest (d - 1) n f
 end_body dialect rest at d n f = refl
 
-end_local : (dialect : Dialect) (rest : List Event) (at d n : ℕ) (f : Option Limit) → over dialect at (Leaves EndLocal ∷ rest) d n f ≡ over dialect at rest (d - 1) n f
+end_local : (dialect : Dialect) (rest : List Event) (at d n : ℕ) (f : Option Limit) → over dialect at (Skips EndLocal ∷ rest) d n f ≡ over dialect at rest (d - 1) n f
 end_local dialect rest at d n f = refl
 
 -- an ask and a body behind one term, where the unit goes d deep
 asked_limited : (dialect : Dialect) (c : ConstraintPhrase) (u : UnitPhrase) → UnitLimited dialect u → (mid : Event) → ((rest : List Event) (at d n : ℕ) (f : Option Limit) → over dialect at (mid ∷ rest) d n f ≡ over dialect (at + 1) rest d n f)
     → (rest : List Event) (at d : ℕ) (g f : Option Limit)
-    → over dialect (at + 1) (constraint_events OneToken c (mid ∷ unit_events u (Leaves EndBody ∷ rest))) (d + 1) 0 (first f g)
+    → over dialect (at + 1) (constraint_events OneToken c (mid ∷ unit_events u (Skips EndBody ∷ rest))) (d + 1) 0 (first f g)
     ≡ over dialect (at + (1 + constraint_width c + 1 + unit_width u)) rest d 0 (first f (first g (first (constraint_limit dialect c 0 (at + 1)) (unit_limit dialect u (d + 1) (at + 1 + constraint_width c + 1)))))
 asked_limited dialect c u ih mid on rest at d g f =
-    constraint_limited dialect c (mid ∷ unit_events u (Leaves EndBody ∷ rest)) (at + 1) (d + 1) 0 (first f g)
-    ∙ on (unit_events u (Leaves EndBody ∷ rest)) (at + 1 + constraint_width c) (d + 1) 0 (first (first f g) (constraint_limit dialect c 0 (at + 1)))
-    ∙ same dialect (unit_events u (Leaves EndBody ∷ rest)) (d + 1) 0 refl (first_assoc f g (constraint_limit dialect c 0 (at + 1)))
-    ∙ body_limited dialect u ih (Leaves EndBody) (end_body dialect) rest (at + 1 + constraint_width c + 1) (at + (1 + constraint_width c + 1 + unit_width u)) d (first g (constraint_limit dialect c 0 (at + 1))) f (omega arith)
+    constraint_limited dialect c (mid ∷ unit_events u (Skips EndBody ∷ rest)) (at + 1) (d + 1) 0 (first f g)
+    ∙ on (unit_events u (Skips EndBody ∷ rest)) (at + 1 + constraint_width c) (d + 1) 0 (first (first f g) (constraint_limit dialect c 0 (at + 1)))
+    ∙ same dialect (unit_events u (Skips EndBody ∷ rest)) (d + 1) 0 refl (first_assoc f g (constraint_limit dialect c 0 (at + 1)))
+    ∙ body_limited dialect u ih (Skips EndBody) (end_body dialect) rest (at + 1 + constraint_width c + 1) (at + (1 + constraint_width c + 1 + unit_width u)) d (first g (constraint_limit dialect c 0 (at + 1))) f (omega arith)
     ∙ ap (λ x. over dialect (at + (1 + constraint_width c + 1 + unit_width u)) rest d 0 (first f x)) (first_assoc g (constraint_limit dialect c 0 (at + 1)) (unit_limit dialect u (d + 1) (at + 1 + constraint_width c + 1)))
 
 -- an agent and a constraint behind one term
@@ -131,32 +131,32 @@ mutual
   unit_limited : (dialect : Dialect) (u : UnitPhrase) → UnitLimited dialect u
   unit_limited dialect phrase.Skip rest at d f = refl
   unit_limited dialect (Tell c) rest at d f =
-      constraint_unit dialect c (Leaves EndTell ∷ rest) at d 0 f
-      ∙ constraint_limited dialect c (Leaves EndTell ∷ rest) at d 0 (first f (deep_limit dialect d at))
+      constraint_unit dialect c (Skips EndTell ∷ rest) at d 0 f
+      ∙ constraint_limited dialect c (Skips EndTell ∷ rest) at d 0 (first f (deep_limit dialect d at))
       ∙ same dialect rest d 0 refl (first_assoc f (deep_limit dialect d at) (constraint_limit dialect c 0 at))
   unit_limited dialect (Braces a) rest at d f =
-      agent_limited dialect a (Takes TheClose CloseBrace ∷ rest) (at + 1) (d + 1) (first f (deep_limit dialect d at))
+      agent_limited dialect a (Matches TheClose CloseBrace ∷ rest) (at + 1) (d + 1) (first f (deep_limit dialect d at))
       ∙ back_up dialect rest (at + 1 + agent_width a + 1) d (first (first f (deep_limit dialect d at)) (agent_limit dialect a (d + 1) (at + 1)))
       ∙ same dialect rest d 0 (omega arith) (first_assoc f (deep_limit dialect d at) (agent_limit dialect a (d + 1) (at + 1)))
-  unit_limited dialect (IfThen c u) rest at d f = asked_limited dialect c u (unit_limited dialect u) (Takes Branch Then) (λ rest at d n f. refl) rest at d (deep_limit dialect d at) f
-  unit_limited dialect (IfElse c u) rest at d f = asked_limited dialect c u (unit_limited dialect u) (Takes Branch Else) (λ rest at d n f. refl) rest at d (deep_limit dialect d at) f
+  unit_limited dialect (IfThen c u) rest at d f = asked_limited dialect c u (unit_limited dialect u) (Matches Branch Then) (λ rest at d n f. refl) rest at d (deep_limit dialect d at) f
+  unit_limited dialect (IfElse c u) rest at d f = asked_limited dialect c u (unit_limited dialect u) (Matches Branch Else) (λ rest at d n f. refl) rest at d (deep_limit dialect d at) f
   unit_limited dialect (LocalSignal x u) rest at d f =
-      ap (λ k. over dialect k (unit_events u (Leaves EndLocal ∷ rest)) (d + 1) 0 (first f (deep_limit dialect d at))) (let e : at + 1 + 1 + 1 + 1 ≡ at + 4 = omega arith in e)
-      ∙ body_limited dialect u (unit_limited dialect u) (Leaves EndLocal) (end_local dialect) rest (at + 4) (at + unit_width (LocalSignal x u)) d (deep_limit dialect d at) f (omega arith)
+      ap (λ k. over dialect k (unit_events u (Skips EndLocal ∷ rest)) (d + 1) 0 (first f (deep_limit dialect d at))) (let e : at + 1 + 1 + 1 + 1 ≡ at + 4 = omega arith in e)
+      ∙ body_limited dialect u (unit_limited dialect u) (Skips EndLocal) (end_local dialect) rest (at + 4) (at + unit_width (LocalSignal x u)) d (deep_limit dialect d at) f (omega arith)
   unit_limited dialect (LocalInt x l h u) rest at d f =
-      ap (λ k. over dialect k (unit_events u (Leaves EndLocal ∷ rest)) (d + 1) 0 (first f (deep_limit dialect d at))) (let e : at + 1 + 1 + 1 + 1 + 1 + 1 + 1 + 1 ≡ at + 8 = omega arith in e)
-      ∙ body_limited dialect u (unit_limited dialect u) (Leaves EndLocal) (end_local dialect) rest (at + 8) (at + unit_width (LocalInt x l h u)) d (deep_limit dialect d at) f (omega arith)
-  unit_limited dialect (phrase.Hence u) rest at d f = body_limited dialect u (unit_limited dialect u) (Leaves EndBody) (end_body dialect) rest (at + 1) (at + unit_width (phrase.Hence u)) d (deep_limit dialect d at) f (omega arith)
-  unit_limited dialect (phrase.Next u) rest at d f = body_limited dialect u (unit_limited dialect u) (Leaves EndBody) (end_body dialect) rest (at + 1) (at + unit_width (phrase.Next u)) d (deep_limit dialect d at) f (omega arith)
-  unit_limited dialect (phrase.Always u) rest at d f = body_limited dialect u (unit_limited dialect u) (Leaves EndBody) (end_body dialect) rest (at + 1) (at + unit_width (phrase.Always u)) d (deep_limit dialect d at) f (omega arith)
-  unit_limited dialect (phrase.When c u) rest at d f = asked_limited dialect c u (unit_limited dialect u) (Takes TheDo Do) (λ rest at d n f. refl) rest at d (deep_limit dialect d at) f
-  unit_limited dialect (phrase.Watching a c) rest at d f = ended_limited dialect a c (agent_limited dialect a) (Takes TheWatching Watching) (Leaves EndWatch) (λ rest at d n f. refl) (λ rest at d n f. refl) rest at d (deep_limit dialect d at) f
-  unit_limited dialect (phrase.TimeOn a c) rest at d f = ended_limited dialect a c (agent_limited dialect a) (Takes TheOn On) (Leaves EndTimed) (λ rest at d n f. refl) (λ rest at d n f. refl) rest at d (deep_limit dialect d at) f
+      ap (λ k. over dialect k (unit_events u (Skips EndLocal ∷ rest)) (d + 1) 0 (first f (deep_limit dialect d at))) (let e : at + 1 + 1 + 1 + 1 + 1 + 1 + 1 + 1 ≡ at + 8 = omega arith in e)
+      ∙ body_limited dialect u (unit_limited dialect u) (Skips EndLocal) (end_local dialect) rest (at + 8) (at + unit_width (LocalInt x l h u)) d (deep_limit dialect d at) f (omega arith)
+  unit_limited dialect (phrase.Hence u) rest at d f = body_limited dialect u (unit_limited dialect u) (Skips EndBody) (end_body dialect) rest (at + 1) (at + unit_width (phrase.Hence u)) d (deep_limit dialect d at) f (omega arith)
+  unit_limited dialect (phrase.Next u) rest at d f = body_limited dialect u (unit_limited dialect u) (Skips EndBody) (end_body dialect) rest (at + 1) (at + unit_width (phrase.Next u)) d (deep_limit dialect d at) f (omega arith)
+  unit_limited dialect (phrase.Always u) rest at d f = body_limited dialect u (unit_limited dialect u) (Skips EndBody) (end_body dialect) rest (at + 1) (at + unit_width (phrase.Always u)) d (deep_limit dialect d at) f (omega arith)
+  unit_limited dialect (phrase.When c u) rest at d f = asked_limited dialect c u (unit_limited dialect u) (Matches TheDo Do) (λ rest at d n f. refl) rest at d (deep_limit dialect d at) f
+  unit_limited dialect (phrase.Watching a c) rest at d f = ended_limited dialect a c (agent_limited dialect a) (Matches TheWatching Watching) (Skips EndWatch) (λ rest at d n f. refl) (λ rest at d n f. refl) rest at d (deep_limit dialect d at) f
+  unit_limited dialect (phrase.TimeOn a c) rest at d f = ended_limited dialect a c (agent_limited dialect a) (Matches TheOn On) (Skips EndTimed) (λ rest at d n f. refl) (λ rest at d n f. refl) rest at d (deep_limit dialect d at) f
 
   agent_limited : (dialect : Dialect) (a : AgentPhrase) → AgentLimited dialect a
-  agent_limited dialect (Only u) rest at d f = unit_limited dialect u (Leaves MoreUnits ∷ rest) at d f
+  agent_limited dialect (Only u) rest at d f = unit_limited dialect u (Skips MoreUnits ∷ rest) at d f
   agent_limited dialect (Par u a) rest at d f =
-      unit_limited dialect u (Takes MoreUnits Bars ∷ agent_events a rest) at d f
+      unit_limited dialect u (Matches MoreUnits Bars ∷ agent_events a rest) at d f
       ∙ agent_limited dialect a rest (at + unit_width u + 1) d (first f (unit_limit dialect u d at))
       ∙ same dialect rest d 0 (omega arith) (first_assoc f (unit_limit dialect u d at) (agent_limit dialect a d (at + unit_width u + 1)))
 

@@ -4,7 +4,7 @@ use Rattle.std.specs.Prelude.{map}
 use Rattle.program_grammar.specs.Terms.{Term, Skip}
 use Rattle.program_grammar.specs.declared.words.Language.{Language}
 use Rattle.program_grammar.specs.declared.machine.Step.{Step}
-use Rattle.program_grammar.specs.Events.{Event, Takes, Leaves, numbered, program_events, event_at}
+use Rattle.program_grammar.specs.Events.{Event, Matches, Skips, numbered, program_events, event_at}
 use Rattle.program_grammar.specs.Phrases.{ProgramPhrase}
 use Rattle.program_grammar.specs.Programs.{Spells}
 use Rattle.program_grammar.specs.Reading.{AreSteps}
@@ -17,8 +17,8 @@ rest_of (e ∷ es) = es
 
 steps_events : {S : Type 0} (f : Pass S) (ts : List Term) (n : ℕ) (es : List Event) (s : S) → map (event_at ts) (numbered n es) ≡ es → over_steps f ts (numbered n es) s ≡ over_events f n es s
 steps_events f ts n [] s e = refl
-steps_events f ts n (Leaves p ∷ es) s e = steps_events f ts n es (f.leaves p s) (ap rest_of e)
-steps_events f ts n (Takes p t ∷ es) s e =
+steps_events f ts n (Skips p ∷ es) s e = steps_events f ts n es (f.leaves p s) (ap rest_of e)
+steps_events f ts n (Matches p t ∷ es) s e =
     let here : get_or ts n Skip ≡ t = cc in
     let next : suc n ≡ n + 1 = omega arith in
     steps_events f ts (suc n) es (f.takes n p (get_or ts n Skip) s) (ap rest_of e)

@@ -3,9 +3,9 @@ use Rattle.std.proofs.Common.{◌≡◌, ℕ, ℤ, ◌+◌, List, [], ◌∷◌,
 use Rattle.program_grammar.specs.Terms.{Name, Number, Then, Else, Do, Watching, On, Ampersand, Bars, CloseBrace, Bang, Hash, GreaterEqual, LessEqual, Equal}
 use Rattle.program_grammar.specs.Phrases.{TokenPhrase, AtLeast, AtMost, Exactly, ConstraintPhrase, One, Both, UnitPhrase, Tell, Braces, IfThen, IfElse, LocalSignal, LocalInt, AgentPhrase, Only, Par, NamesPhrase, LastName, MoreName, ItemsPhrase, LastItem, MoreItem, ProgramPhrase, Runs, Signals, Ints}
 use Rattle.program_grammar.specs.Phrases as phrase
-use Rattle.program_grammar.specs.declared.parts.Part.{Part}
-use Rattle.program_grammar.specs.declared.parts.Part.TheVariants.{OneUnit, MoreUnits, OneToken, MoreTokens, Bound, Branch, DeniedName, ClashingName, LeastNumber, MostNumber, ExactNumber, TheClose, EndTell, EndBody, EndLocal, TheDo, TheWatching, TheOn, EndWatch, EndTimed}
-use Rattle.program_grammar.specs.Events.{Event, Takes, Leaves, token_events, constraint_events, unit_events, agent_events, names_events, items_events, program_events}
+use Rattle.program_grammar.specs.declared.stack_symbols.StackSymbol.{StackSymbol}
+use Rattle.program_grammar.specs.declared.stack_symbols.StackSymbol.TheVariants.{OneUnit, MoreUnits, OneToken, MoreTokens, Bound, Branch, DeniedName, ClashingName, LeastNumber, MostNumber, ExactNumber, TheClose, EndTell, EndBody, EndLocal, TheDo, TheWatching, TheOn, EndWatch, EndTimed}
+use Rattle.program_grammar.specs.Events.{Event, Matches, Skips, token_events, constraint_events, unit_events, agent_events, names_events, items_events, program_events}
 use Rattle.token_system.specs.declared.cell.Kind.{Kind}
 use Rattle.token_system.specs.declared.cell.Kind.TheVariants as kind
 use Rattle.tdcc_reader.specs.declared.naming.NameFault.{NameFault}
@@ -24,11 +24,11 @@ same : (rest : List Event) (s : List Known) {at at' : ℕ} {f f' : Option NameFa
 same rest s {at} {at'} {f} {f'} ea ef = ap (λ x. over x rest s f) ea ∙ ap (λ x. over at' rest s x) ef
 
 -- a part that takes the first term of a token
-abbrev Begins : Part → Type 0
+abbrev Begins : StackSymbol → Type 0
 Begins p = (x : List ℕ) (rest : List Event) (at : ℕ) (s : List Known) (f : Option NameFault)
-    → (over at (Takes p (Name x) ∷ rest) s f ≡ over_events pass.naming_pass (at + 1) rest (pass.names s (waiting.Name (kind_of s x) at) (first f (any_use s x at))))
-    × (over at (Takes p Bang ∷ rest) s f ≡ over (at + 1) rest s f)
-    × (over at (Takes p Hash ∷ rest) s f ≡ over (at + 1) rest s f)
+    → (over at (Matches p (Name x) ∷ rest) s f ≡ over_events pass.naming_pass (at + 1) rest (pass.names s (waiting.Name (kind_of s x) at) (first f (any_use s x at))))
+    × (over at (Matches p Bang ∷ rest) s f ≡ over (at + 1) rest s f)
+    × (over at (Matches p Hash ∷ rest) s f ≡ over (at + 1) rest s f)
 
 unit_begins : Begins OneUnit
 unit_begins x rest at s f = (refl, refl, refl)
@@ -37,25 +37,25 @@ token_begins : Begins OneToken
 token_begins x rest at s f = (refl, refl, refl)
 
 -- a name with a bound
-bounded : (p : Part) → Begins p → (x : List ℕ) (rest more : List Event) (sign : Event) → ((at : ℕ) (s : List Known) (k : Option Kind) (f : Option NameFault) → over_events pass.naming_pass (at + 1) (sign ∷ more) (pass.names s (waiting.Name k at) f) ≡ over (at + 1 + 1 + 1) rest s (first f (number_fault k at)))
-    → (at : ℕ) (s : List Known) (f : Option NameFault) → over at (Takes p (Name x) ∷ sign ∷ more) s f ≡ over (at + 3) rest s (first f (first (any_use s x at) (number_fault (kind_of s x) at)))
+bounded : (p : StackSymbol) → Begins p → (x : List ℕ) (rest more : List Event) (sign : Event) → ((at : ℕ) (s : List Known) (k : Option Kind) (f : Option NameFault) → over_events pass.naming_pass (at + 1) (sign ∷ more) (pass.names s (waiting.Name k at) f) ≡ over (at + 1 + 1 + 1) rest s (first f (number_fault k at)))
+    → (at : ℕ) (s : List Known) (f : Option NameFault) → over at (Matches p (Name x) ∷ sign ∷ more) s f ≡ over (at + 3) rest s (first f (first (any_use s x at) (number_fault (kind_of s x) at)))
 bounded p b x rest more sign on at s f =
     (b x (sign ∷ more) at s f).0
     ∙ on at s (kind_of s x) (first f (any_use s x at))
     ∙ same rest s (omega arith) (first_assoc f (any_use s x at) (number_fault (kind_of s x) at))
 
-token_scoped : (p : Part) → Begins p → (t : TokenPhrase) (rest : List Event) (at : ℕ) (s : List Known) (f : Option NameFault) → over at (token_events p t rest) s f ≡ over (at + token_width t) rest s (first f (token_fault t s at))
-token_scoped p b (phrase.On x) rest at s f = (b x (Leaves Bound ∷ rest) at s f).0 ∙ same rest s refl (first_assoc f (any_use s x at) (signal_fault (kind_of s x) at))
-token_scoped p b (phrase.Off x) rest at s f = (b x (Takes DeniedName (Name x) ∷ rest) at s f).1 ∙ same rest s (omega arith) refl
-token_scoped p b (phrase.Clash x) rest at s f = (b x (Takes ClashingName (Name x) ∷ rest) at s f).2 ∙ same rest s (omega arith) refl
-token_scoped p b (AtLeast x k) rest at s f = bounded p b x rest (Takes LeastNumber (Number k) ∷ rest) (Takes Bound GreaterEqual) (λ at s k f. refl) at s f
-token_scoped p b (AtMost x k) rest at s f = bounded p b x rest (Takes MostNumber (Number k) ∷ rest) (Takes Bound LessEqual) (λ at s k f. refl) at s f
-token_scoped p b (Exactly x k) rest at s f = bounded p b x rest (Takes ExactNumber (Number k) ∷ rest) (Takes Bound Equal) (λ at s k f. refl) at s f
+token_scoped : (p : StackSymbol) → Begins p → (t : TokenPhrase) (rest : List Event) (at : ℕ) (s : List Known) (f : Option NameFault) → over at (token_events p t rest) s f ≡ over (at + token_width t) rest s (first f (token_fault t s at))
+token_scoped p b (phrase.On x) rest at s f = (b x (Skips Bound ∷ rest) at s f).0 ∙ same rest s refl (first_assoc f (any_use s x at) (signal_fault (kind_of s x) at))
+token_scoped p b (phrase.Off x) rest at s f = (b x (Matches DeniedName (Name x) ∷ rest) at s f).1 ∙ same rest s (omega arith) refl
+token_scoped p b (phrase.Clash x) rest at s f = (b x (Matches ClashingName (Name x) ∷ rest) at s f).2 ∙ same rest s (omega arith) refl
+token_scoped p b (AtLeast x k) rest at s f = bounded p b x rest (Matches LeastNumber (Number k) ∷ rest) (Matches Bound GreaterEqual) (λ at s k f. refl) at s f
+token_scoped p b (AtMost x k) rest at s f = bounded p b x rest (Matches MostNumber (Number k) ∷ rest) (Matches Bound LessEqual) (λ at s k f. refl) at s f
+token_scoped p b (Exactly x k) rest at s f = bounded p b x rest (Matches ExactNumber (Number k) ∷ rest) (Matches Bound Equal) (λ at s k f. refl) at s f
 
-constraint_scoped : (c : ConstraintPhrase) (p : Part) → Begins p → (rest : List Event) (at : ℕ) (s : List Known) (f : Option NameFault) → over at (constraint_events p c rest) s f ≡ over (at + constraint_width c) rest s (first f (constraint_fault c s at))
-constraint_scoped (One t) p b rest at s f = token_scoped p b t (Leaves MoreTokens ∷ rest) at s f
+constraint_scoped : (c : ConstraintPhrase) (p : StackSymbol) → Begins p → (rest : List Event) (at : ℕ) (s : List Known) (f : Option NameFault) → over at (constraint_events p c rest) s f ≡ over (at + constraint_width c) rest s (first f (constraint_fault c s at))
+constraint_scoped (One t) p b rest at s f = token_scoped p b t (Skips MoreTokens ∷ rest) at s f
 constraint_scoped (Both t c) p b rest at s f =
-    token_scoped p b t (Takes MoreTokens Ampersand ∷ constraint_events OneToken c rest) at s f
+    token_scoped p b t (Matches MoreTokens Ampersand ∷ constraint_events OneToken c rest) at s f
     ∙ constraint_scoped c OneToken token_begins rest (at + token_width t + 1) s (first f (token_fault t s at))
     ∙ same rest s (omega arith) (first_assoc f (token_fault t s at) (constraint_fault c s (at + token_width t + 1)))
 
@@ -68,12 +68,12 @@ AgentScoped a = (rest : List Event) (at : ℕ) (s : List Known) (f : Option Name
 -- an ask and a body behind one term
 asked_scoped : (c : ConstraintPhrase) (u : UnitPhrase) → UnitScoped u → (mid : Event) → ((rest : List Event) (at : ℕ) (s : List Known) (f : Option NameFault) → over at (mid ∷ rest) s f ≡ over (at + 1) rest s f)
     → (rest : List Event) (at : ℕ) (s : List Known) (f : Option NameFault)
-    → over (at + 1) (constraint_events OneToken c (mid ∷ unit_events u (Leaves EndBody ∷ rest))) s f
+    → over (at + 1) (constraint_events OneToken c (mid ∷ unit_events u (Skips EndBody ∷ rest))) s f
     ≡ over (at + (1 + constraint_width c + 1 + unit_width u)) rest s (first f (first (constraint_fault c s (at + 1)) (unit_fault u s (at + 1 + constraint_width c + 1))))
 asked_scoped c u ih mid on rest at s f =
-    constraint_scoped c OneToken token_begins (mid ∷ unit_events u (Leaves EndBody ∷ rest)) (at + 1) s f
-    ∙ on (unit_events u (Leaves EndBody ∷ rest)) (at + 1 + constraint_width c) s (first f (constraint_fault c s (at + 1)))
-    ∙ ih (Leaves EndBody ∷ rest) (at + 1 + constraint_width c + 1) s (first f (constraint_fault c s (at + 1)))
+    constraint_scoped c OneToken token_begins (mid ∷ unit_events u (Skips EndBody ∷ rest)) (at + 1) s f
+    ∙ on (unit_events u (Skips EndBody ∷ rest)) (at + 1 + constraint_width c) s (first f (constraint_fault c s (at + 1)))
+    ∙ ih (Skips EndBody ∷ rest) (at + 1 + constraint_width c + 1) s (first f (constraint_fault c s (at + 1)))
     ∙ same rest s (omega arith) (first_assoc f (constraint_fault c s (at + 1)) (unit_fault u s (at + 1 + constraint_width c + 1)))
 
 -- an agent and a constraint behind one term
@@ -92,10 +92,10 @@ ended_scoped a c ih mid end on off rest at s f =
 
 -- the body of new, behind what was found before
 local_scoped : (k : Known) (u : UnitPhrase) → UnitScoped u → (rest : List Event) (at at' to : ℕ) (s : List Known) (g g' f : Option NameFault) → at ≡ at' → at' + unit_width u ≡ to → g ≡ first f g'
-    → over at (unit_events u (Leaves EndLocal ∷ rest)) (k ∷ s) g ≡ over to rest s (first f (first g' (unit_fault u (k ∷ s) at')))
+    → over at (unit_events u (Skips EndLocal ∷ rest)) (k ∷ s) g ≡ over to rest s (first f (first g' (unit_fault u (k ∷ s) at')))
 local_scoped k u ih rest at at' to s g g' f ea et eg =
-    ap (λ x. over x (unit_events u (Leaves EndLocal ∷ rest)) (k ∷ s) g) ea
-    ∙ ih (Leaves EndLocal ∷ rest) at' (k ∷ s) g
+    ap (λ x. over x (unit_events u (Skips EndLocal ∷ rest)) (k ∷ s) g) ea
+    ∙ ih (Skips EndLocal ∷ rest) at' (k ∷ s) g
     ∙ same rest s et (ap (λ x. first x (unit_fault u (k ∷ s) at')) eg ∙ first_assoc f g' (unit_fault u (k ∷ s) at'))
 
 -- a declared name and its domain
@@ -105,27 +105,27 @@ item_first x l h s at at' at'' f e e' = ap (λ n. first (first f (declared_fault
 mutual
   unit_scoped : (u : UnitPhrase) → UnitScoped u
   unit_scoped phrase.Skip rest at s f = same rest s refl (sym (first_none f))
-  unit_scoped (Tell c) rest at s f = constraint_scoped c OneUnit unit_begins (Leaves EndTell ∷ rest) at s f
-  unit_scoped (Braces a) rest at s f = agent_scoped a (Takes TheClose CloseBrace ∷ rest) (at + 1) s f ∙ same rest s (omega arith) refl
-  unit_scoped (IfThen c u) rest at s f = asked_scoped c u (unit_scoped u) (Takes Branch Then) (λ rest at s f. refl) rest at s f
-  unit_scoped (IfElse c u) rest at s f = asked_scoped c u (unit_scoped u) (Takes Branch Else) (λ rest at s f. refl) rest at s f
+  unit_scoped (Tell c) rest at s f = constraint_scoped c OneUnit unit_begins (Skips EndTell ∷ rest) at s f
+  unit_scoped (Braces a) rest at s f = agent_scoped a (Matches TheClose CloseBrace ∷ rest) (at + 1) s f ∙ same rest s (omega arith) refl
+  unit_scoped (IfThen c u) rest at s f = asked_scoped c u (unit_scoped u) (Matches Branch Then) (λ rest at s f. refl) rest at s f
+  unit_scoped (IfElse c u) rest at s f = asked_scoped c u (unit_scoped u) (Matches Branch Else) (λ rest at s f. refl) rest at s f
   unit_scoped (LocalSignal x u) rest at s f =
       local_scoped (known x kind.Signal) u (unit_scoped u) rest (at + 1 + 1 + 1 + 1) (at + 4) (at + unit_width (LocalSignal x u)) s (first f (declared_fault x s (at + 1 + 1))) (declared_fault x s (at + 2)) f (omega arith) (omega arith)
       (let e : at + 1 + 1 ≡ at + 2 = omega arith in ap (λ n. first f (declared_fault x s n)) e)
   unit_scoped (LocalInt x l h u) rest at s f =
       local_scoped (known x kind.Number) u (unit_scoped u) rest (at + 1 + 1 + 1 + 1 + 1 + 1 + 1 + 1) (at + 8) (at + unit_width (LocalInt x l h u)) s (first (first f (declared_fault x s (at + 1 + 1))) (domain_fault l h (at + 1 + 1 + 1 + 1))) (item_fault x l h s (at + 2)) f (omega arith) (omega arith)
       (item_first x l h s (at + 1 + 1) (at + 2) (at + 1 + 1 + 1 + 1) f (omega arith) (omega arith))
-  unit_scoped (phrase.Hence u) rest at s f = unit_scoped u (Leaves EndBody ∷ rest) (at + 1) s f ∙ same rest s (omega arith) refl
-  unit_scoped (phrase.Next u) rest at s f = unit_scoped u (Leaves EndBody ∷ rest) (at + 1) s f ∙ same rest s (omega arith) refl
-  unit_scoped (phrase.Always u) rest at s f = unit_scoped u (Leaves EndBody ∷ rest) (at + 1) s f ∙ same rest s (omega arith) refl
-  unit_scoped (phrase.When c u) rest at s f = asked_scoped c u (unit_scoped u) (Takes TheDo Do) (λ rest at s f. refl) rest at s f
-  unit_scoped (phrase.Watching a c) rest at s f = ended_scoped a c (agent_scoped a) (Takes TheWatching Watching) (Leaves EndWatch) (λ rest at s f. refl) (λ rest at s f. refl) rest at s f
-  unit_scoped (phrase.TimeOn a c) rest at s f = ended_scoped a c (agent_scoped a) (Takes TheOn On) (Leaves EndTimed) (λ rest at s f. refl) (λ rest at s f. refl) rest at s f
+  unit_scoped (phrase.Hence u) rest at s f = unit_scoped u (Skips EndBody ∷ rest) (at + 1) s f ∙ same rest s (omega arith) refl
+  unit_scoped (phrase.Next u) rest at s f = unit_scoped u (Skips EndBody ∷ rest) (at + 1) s f ∙ same rest s (omega arith) refl
+  unit_scoped (phrase.Always u) rest at s f = unit_scoped u (Skips EndBody ∷ rest) (at + 1) s f ∙ same rest s (omega arith) refl
+  unit_scoped (phrase.When c u) rest at s f = asked_scoped c u (unit_scoped u) (Matches TheDo Do) (λ rest at s f. refl) rest at s f
+  unit_scoped (phrase.Watching a c) rest at s f = ended_scoped a c (agent_scoped a) (Matches TheWatching Watching) (Skips EndWatch) (λ rest at s f. refl) (λ rest at s f. refl) rest at s f
+  unit_scoped (phrase.TimeOn a c) rest at s f = ended_scoped a c (agent_scoped a) (Matches TheOn On) (Skips EndTimed) (λ rest at s f. refl) (λ rest at s f. refl) rest at s f
 
   agent_scoped : (a : AgentPhrase) → AgentScoped a
-  agent_scoped (Only u) rest at s f = unit_scoped u (Leaves MoreUnits ∷ rest) at s f
+  agent_scoped (Only u) rest at s f = unit_scoped u (Skips MoreUnits ∷ rest) at s f
   agent_scoped (Par u a) rest at s f =
-      unit_scoped u (Takes MoreUnits Bars ∷ agent_events a rest) at s f
+      unit_scoped u (Matches MoreUnits Bars ∷ agent_events a rest) at s f
       ∙ agent_scoped a rest (at + unit_width u + 1) s (first f (unit_fault u s at))
       ∙ same rest s (omega arith) (first_assoc f (unit_fault u s at) (agent_fault a s (at + unit_width u + 1)))
 

@@ -7,8 +7,8 @@ use Rattle.token_system.specs.declared.cell.Token.TheVariants as token
 use Rattle.program_grammar.specs.Terms.{Term}
 use Rattle.program_grammar.specs.declared.words.Word.{Word}
 use Rattle.program_grammar.specs.declared.words.Word.TheVariants as word
-use Rattle.program_grammar.specs.declared.parts.Part.{Part}
-use Rattle.program_grammar.specs.declared.parts.Part.TheVariants.{Declarations, OneUnit, MoreUnits, OneToken, Bound, Branch, DeniedName, ClashingName, DeclaredName, LocalName, DeclaredIntName, LocalIntName, LowNumber, HighNumber, LeastNumber, MostNumber, ExactNumber, TheDo, EndTell, EndLocal, EndWatch, EndTimed}
+use Rattle.program_grammar.specs.declared.stack_symbols.StackSymbol.{StackSymbol}
+use Rattle.program_grammar.specs.declared.stack_symbols.StackSymbol.TheVariants.{Declarations, OneUnit, MoreUnits, OneToken, Bound, Branch, DeniedName, ClashingName, DeclaredName, LocalName, DeclaredIntName, LocalIntName, LowNumber, HighNumber, LeastNumber, MostNumber, ExactNumber, TheDo, EndTell, EndLocal, EndWatch, EndTimed}
 use Rattle.tdcc_reader.specs.declared.draft.DraftKind.{DraftKind}
 use Rattle.tdcc_reader.specs.declared.draft.DraftKind.TheVariants as kind
 use Rattle.tdcc_reader.specs.declared.build.Builder as code
@@ -118,7 +118,7 @@ abbrev pub counts_declared : Built → Built
 counts_declared b = built b.drafts b.ask b.starts b.scope b.cells b.waits (length b.cells)
 
 -- a part takes a name
-abbrev pub takes_name : Part → List ℕ → Built → Built
+abbrev pub takes_name : StackSymbol → List ℕ → Built → Built
 takes_name OneUnit x b = waits_for (Subject (cell_of b.scope x)) b
 takes_name OneToken x b = waits_for (Subject (cell_of b.scope x)) b
 takes_name DeniedName x b = asks (cell_of b.scope x) token.Off b
@@ -130,7 +130,7 @@ takes_name LocalIntName x b = waits_for (Item x) (puts (kind.New (next_cell b.ce
 takes_name _ x b = b
 
 -- a part takes a number
-abbrev pub takes_number : Part → ℤ → Built → Built
+abbrev pub takes_number : StackSymbol → ℤ → Built → Built
 takes_number LowNumber n b = takes_low b.waits n b
 takes_number HighNumber n b = declares_number b.waits n b
 takes_number LeastNumber n b = asks_waiting b.waits (token.AtLeast n ∷ []) b
@@ -156,17 +156,17 @@ takes_branch word.Else b = puts_asked kind.Else b
 takes_branch _ b = b
 
 -- a part takes a keyword or symbol
-abbrev pub takes_word : Part → Word → Built → Built
+abbrev pub takes_word : StackSymbol → Word → Built → Built
 takes_word OneUnit w b = takes_unit w b
 takes_word MoreUnits w b = next_unit b
 takes_word Branch w b = takes_branch w b
 takes_word TheDo w b = puts_asked kind.When b
 takes_word _ w b = b
 
-abbrev pub takes_built : Part → Term → Built → Built
+abbrev pub takes_built : StackSymbol → Term → Built → Built
 takes_built p t b = by_term (λ x. takes_name p x b) (λ n. takes_number p n b) (λ w. takes_word p w b) t
 
-abbrev pub leaves_built : Part → Built → Built
+abbrev pub leaves_built : StackSymbol → Built → Built
 leaves_built Declarations b = counts_declared b
 leaves_built MoreUnits b = ends b
 leaves_built Bound b = asks_waiting b.waits (token.On ∷ []) b

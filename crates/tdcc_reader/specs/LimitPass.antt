@@ -4,8 +4,8 @@ use Rattle.std.specs.Prelude.{ℕ, ◌+◌, ◌-◌, Option}
 use Rattle.program_grammar.specs.Terms.{class_of}
 use Rattle.program_grammar.specs.declared.words.Word.{Word}
 use Rattle.program_grammar.specs.declared.words.Word.TheVariants.{Name, Bang, Hash, Skip, Equal}
-use Rattle.program_grammar.specs.declared.parts.Part.{Part}
-use Rattle.program_grammar.specs.declared.parts.Part.TheVariants.{OneUnit, OneToken, MoreTokens, Bound, TheClose, TheWatching, TheOn, EndBody, EndLocal}
+use Rattle.program_grammar.specs.declared.stack_symbols.StackSymbol.{StackSymbol}
+use Rattle.program_grammar.specs.declared.stack_symbols.StackSymbol.TheVariants.{OneUnit, OneToken, MoreTokens, Bound, TheClose, TheWatching, TheOn, EndBody, EndLocal}
 use Rattle.tdcc_reader.specs.declared.dialect.Dialect.{Dialect}
 use Rattle.tdcc_reader.specs.declared.dialect.Dialect.TheVariants.{Program, Core}
 use Rattle.tdcc_reader.specs.declared.limits.Limit.{Limit}
@@ -50,7 +50,7 @@ abbrev pub takes_bound : Dialect → ℕ → Word → Limits → Limits
 takes_bound dialect at Equal s = takes_equation dialect at s
 takes_bound dialect at _ s = s
 
-abbrev pub takes_limit : Dialect → ℕ → Part → Word → Limits → Limits
+abbrev pub takes_limit : Dialect → ℕ → StackSymbol → Word → Limits → Limits
 takes_limit dialect at OneUnit w s = takes_unit dialect at w s
 takes_limit dialect at OneToken w s = token_begins dialect at s
 takes_limit dialect at Bound w s = takes_bound dialect at w s
@@ -59,7 +59,7 @@ takes_limit dialect at TheWatching w s = higher s
 takes_limit dialect at TheOn w s = higher s
 takes_limit dialect at _ w s = s
 
-abbrev pub leaves_limit : Part → Limits → Limits
+abbrev pub leaves_limit : StackSymbol → Limits → Limits
 leaves_limit MoreTokens s = no_tokens s
 leaves_limit EndBody s = higher s
 leaves_limit EndLocal s = higher s

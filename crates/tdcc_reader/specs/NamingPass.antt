@@ -3,8 +3,8 @@ use Rattle.std.specs.Prelude.{ℕ, ℤ, List, [], ◌∷◌, map, Option}
 use Rattle.token_system.specs.declared.cell.Kind.{Kind}
 use Rattle.token_system.specs.declared.cell.Kind.TheVariants as kind
 use Rattle.program_grammar.specs.Terms.{Term}
-use Rattle.program_grammar.specs.declared.parts.Part.{Part}
-use Rattle.program_grammar.specs.declared.parts.Part.TheVariants.{OneUnit, OneToken, Bound, DeniedName, ClashingName, DeclaredName, LocalName, DeclaredIntName, LocalIntName, LowNumber, HighNumber, EndLocal}
+use Rattle.program_grammar.specs.declared.stack_symbols.StackSymbol.{StackSymbol}
+use Rattle.program_grammar.specs.declared.stack_symbols.StackSymbol.TheVariants.{OneUnit, OneToken, Bound, DeniedName, ClashingName, DeclaredName, LocalName, DeclaredIntName, LocalIntName, LowNumber, HighNumber, EndLocal}
 use Rattle.tdcc_reader.specs.declared.naming.NameFault.{NameFault}
 use Rattle.tdcc_reader.specs.declared.naming.Waiting.{Waiting}
 use Rattle.tdcc_reader.specs.declared.naming.Waiting.TheVariants as waiting
@@ -59,7 +59,7 @@ abbrev pub leaves_scope : Names → Names
 leaves_scope s = names (less_first s.scope) s.waiting s.found
 
 -- a part takes a name
-abbrev pub takes_name : ℕ → Part → List ℕ → Names → Names
+abbrev pub takes_name : ℕ → StackSymbol → List ℕ → Names → Names
 takes_name at OneUnit x s = uses_name at x s
 takes_name at OneToken x s = uses_name at x s
 takes_name at DeniedName x s = note (signal_use s.scope x at) s
@@ -71,20 +71,20 @@ takes_name at LocalIntName x s = declares kind.Number at x s
 takes_name at _ x s = s
 
 -- a part takes a number
-abbrev pub takes_number : ℕ → Part → ℤ → Names → Names
+abbrev pub takes_number : ℕ → StackSymbol → ℤ → Names → Names
 takes_number at LowNumber n s = takes_low at n s
 takes_number at HighNumber n s = takes_high s.waiting n s
 takes_number at _ n s = s
 
 -- a part takes a keyword or symbol
-abbrev pub takes_fixed : Part → Names → Names
+abbrev pub takes_fixed : StackSymbol → Names → Names
 takes_fixed Bound s = with_bound s.waiting s
 takes_fixed _ s = s
 
-abbrev pub takes_names : ℕ → Part → Term → Names → Names
+abbrev pub takes_names : ℕ → StackSymbol → Term → Names → Names
 takes_names at p t s = by_term (λ x. takes_name at p x s) (λ n. takes_number at p n s) (λ w. takes_fixed p s) t
 
-abbrev pub leaves_names : Part → Names → Names
+abbrev pub leaves_names : StackSymbol → Names → Names
 leaves_names Bound s = without_bound s.waiting s
 leaves_names EndLocal s = leaves_scope s
 leaves_names _ s = s

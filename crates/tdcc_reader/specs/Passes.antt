@@ -3,26 +3,26 @@
 use Rattle.std.specs.Prelude.{ℕ, ℤ, ◌+◌, List, [], ◌∷◌, get_or}
 use Rattle.program_grammar.specs.Terms.{Term, Name, Number, Skip, class_of}
 use Rattle.program_grammar.specs.declared.words.Word.{Word}
-use Rattle.program_grammar.specs.declared.parts.Part.{Part}
+use Rattle.program_grammar.specs.declared.stack_symbols.StackSymbol.{StackSymbol}
 use Rattle.program_grammar.specs.declared.machine.Step.{Step}
-use Rattle.program_grammar.specs.declared.machine.Step.TheVariants.{Took, Left}
-use Rattle.program_grammar.specs.Events.{Event, Takes, Leaves}
+use Rattle.program_grammar.specs.declared.machine.Step.TheVariants.{Matched, Skipped}
+use Rattle.program_grammar.specs.Events.{Event, Matches, Skips}
 
 pub record Pass (S : Type 0) : Type 0 where
-  pub takes : ℕ → Part → Term → S → S
-  pub leaves : Part → S → S
+  pub takes : ℕ → StackSymbol → Term → S → S
+  pub leaves : StackSymbol → S → S
 
 -- over steps, with the terms that they speak of
 abbrev pub over_steps : {S : Type 0} → Pass S → List Term → List Step → S → S
 over_steps f ts [] s = s
-over_steps f ts (Took p place ∷ ss) s = over_steps f ts ss (f.takes place p (get_or ts place Skip) s)
-over_steps f ts (Left p ∷ ss) s = over_steps f ts ss (f.leaves p s)
+over_steps f ts (Matched p place ∷ ss) s = over_steps f ts ss (f.takes place p (get_or ts place Skip) s)
+over_steps f ts (Skipped p ∷ ss) s = over_steps f ts ss (f.leaves p s)
 
 -- over events of which the first term is at this place
 abbrev pub over_events : {S : Type 0} → Pass S → ℕ → List Event → S → S
 over_events f at [] s = s
-over_events f at (Takes p t ∷ es) s = over_events f (at + 1) es (f.takes at p t s)
-over_events f at (Leaves p ∷ es) s = over_events f at es (f.leaves p s)
+over_events f at (Matches p t ∷ es) s = over_events f (at + 1) es (f.takes at p t s)
+over_events f at (Skips p ∷ es) s = over_events f at es (f.leaves p s)
 
 -- a choice by a term: by the bytes of a name, by the value of a number, or by any other word
 abbrev pub by_term : {S : Type 0} → (List ℕ → S) → (ℤ → S) → (Word → S) → Term → S

@@ -18,7 +18,7 @@ use crate::draft::{Draft, DraftKind};
 use crate::scope::Scope;
 use crate::terms::{Term, term_at};
 use agent_core::{CellDecl, Name};
-use program_grammar::{Part, Step, Word, places_law};
+use program_grammar::{StackSymbol, Step, Word, places_law};
 use std::alloc::{AllocError, Global};
 use std::mem;
 use token_system::{Cell, Token};
@@ -197,7 +197,7 @@ impl<'a> Builder<'a> {
     }
 
     fn hold_subject(&mut self, name: &'a [u8])
-        ensures { built_view self.new ≡ takes_name Part.OneToken name.now (built_view self.old) }
+        ensures { built_view self.new ≡ takes_name StackSymbol.OneToken name.now (built_view self.old) }
     {
         let cell = cell_of(&self.scope, name);
         self.hold(Held::Subject(cell));
@@ -210,26 +210,26 @@ impl<'a> Builder<'a> {
         self.put(alloc, DraftKind::New(cell))
     }
 
-    fn take_name(&mut self, alloc: Global, part: Part, name: &'a [u8]) -> Result<(), AllocError>
+    fn take_name(&mut self, alloc: Global, part: StackSymbol, name: &'a [u8]) -> Result<(), AllocError>
         ensures { OnOk result (built_view self.new ≡ takes_name part name.now (built_view self.old)) }
     {
         match part {
-            Part::OneUnit | Part::OneToken => self.hold_subject(name),
-            Part::DeniedName => {
+            StackSymbol::OneUnit | StackSymbol::OneToken => self.hold_subject(name),
+            StackSymbol::DeniedName => {
                 let cell = cell_of(&self.scope, name);
                 self.ask(cell, Token::Off)?;
             }
-            Part::ClashingName => {
+            StackSymbol::ClashingName => {
                 let cell = cell_of(&self.scope, name);
                 self.ask(cell, Token::Clash)?;
             }
-            Part::DeclaredName => self.declare_signal(alloc, name)?,
-            Part::LocalName => {
+            StackSymbol::DeclaredName => self.declare_signal(alloc, name)?,
+            StackSymbol::LocalName => {
                 self.open_local(alloc)?;
                 self.declare_signal(alloc, name)?;
             }
-            Part::DeclaredIntName => self.hold(Held::Item(name)),
-            Part::LocalIntName => {
+            StackSymbol::DeclaredIntName => self.hold(Held::Item(name)),
+            StackSymbol::LocalIntName => {
                 self.open_local(alloc)?;
                 self.hold(Held::Item(name));
             }
@@ -238,18 +238,18 @@ impl<'a> Builder<'a> {
         Ok(())
     }
 
-    fn take_number(&mut self, alloc: Global, part: Part, number: i64) -> Result<(), AllocError>
+    fn take_number(&mut self, alloc: Global, part: StackSymbol, number: i64) -> Result<(), AllocError>
         ensures { OnOk result (built_view self.new ≡ takes_number part number (built_view self.old)) }
     {
         match part {
-            Part::LowNumber => {
+            StackSymbol::LowNumber => {
                 self.take_low(number);
                 Ok(())
             }
-            Part::HighNumber => self.take_high(alloc, number),
-            Part::LeastNumber => self.ask_held(Token::AtLeast(number)),
-            Part::MostNumber => self.ask_held(Token::AtMost(number)),
-            Part::ExactNumber => self.ask_exactly(number),
+            StackSymbol::HighNumber => self.take_high(alloc, number),
+            StackSymbol::LeastNumber => self.ask_held(Token::AtLeast(number)),
+            StackSymbol::MostNumber => self.ask_held(Token::AtMost(number)),
+            StackSymbol::ExactNumber => self.ask_exactly(number),
             _ => Ok(()),
         }
     }
@@ -281,19 +281,19 @@ impl<'a> Builder<'a> {
         }
     }
 
-    fn take_word(&mut self, alloc: Global, part: Part, word: Word) -> Result<(), AllocError>
+    fn take_word(&mut self, alloc: Global, part: StackSymbol, word: Word) -> Result<(), AllocError>
         ensures { OnOk result (built_view self.new ≡ takes_word part word (built_view self.old)) }
     {
         match part {
-            Part::OneUnit => self.take_unit(alloc, word),
-            Part::MoreUnits => self.next_unit(alloc),
-            Part::Branch => self.take_branch(alloc, word),
-            Part::TheDo => self.put_asked(alloc, DraftKind::When),
+            StackSymbol::OneUnit => self.take_unit(alloc, word),
+            StackSymbol::MoreUnits => self.next_unit(alloc),
+            StackSymbol::Branch => self.take_branch(alloc, word),
+            StackSymbol::TheDo => self.put_asked(alloc, DraftKind::When),
             _ => Ok(()),
         }
     }
 
-    fn take(&mut self, alloc: Global, part: Part, term: Term<'a>) -> Result<(), AllocError>
+    fn take(&mut self, alloc: Global, part: StackSymbol, term: Term<'a>) -> Result<(), AllocError>
         ensures { OnOk result (built_view self.new ≡ takes_built part (term_view term.entry) (built_view self.old)) }
     {
         match term {
@@ -304,17 +304,17 @@ impl<'a> Builder<'a> {
         }
     }
 
-    fn leave(&mut self, alloc: Global, part: Part) -> Result<(), AllocError>
+    fn leave(&mut self, alloc: Global, part: StackSymbol) -> Result<(), AllocError>
         ensures { OnOk result (built_view self.new ≡ leaves_built part (built_view self.old)) }
     {
         match part {
-            Part::Declarations => self.declared = self.cells.len(),
-            Part::MoreUnits => self.end(),
-            Part::Bound => self.ask_held(Token::On)?,
-            Part::EndTell => self.put_asked(alloc, DraftKind::Tell)?,
-            Part::EndLocal => self.leave_scope(),
-            Part::EndWatch => self.wrap(alloc, DraftKind::Watch)?,
-            Part::EndTimed => self.wrap(alloc, DraftKind::Time)?,
+            StackSymbol::Declarations => self.declared = self.cells.len(),
+            StackSymbol::MoreUnits => self.end(),
+            StackSymbol::Bound => self.ask_held(Token::On)?,
+            StackSymbol::EndTell => self.put_asked(alloc, DraftKind::Tell)?,
+            StackSymbol::EndLocal => self.leave_scope(),
+            StackSymbol::EndWatch => self.wrap(alloc, DraftKind::Watch)?,
+            StackSymbol::EndTimed => self.wrap(alloc, DraftKind::Time)?,
             _ => {}
         }
         Ok(())
@@ -339,8 +339,8 @@ fn build_steps<'a>(
     };
     for step in steps {
         match *step {
-            Step::Took(part, place) => builder.take(alloc, part, term_at(terms, place))?,
-            Step::Left(part) => builder.leave(alloc, part)?,
+            Step::Matched(part, place) => builder.take(alloc, part, term_at(terms, place))?,
+            Step::Skipped(part) => builder.leave(alloc, part)?,
         }
     }
     Ok(builder)

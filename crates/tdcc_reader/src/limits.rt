@@ -13,7 +13,7 @@ ghost use Rattle.tdcc_reader.specs.TermViews.{term_view};
 use crate::dialect::Dialect;
 use crate::fault::ReadFault;
 use crate::terms::{Term, word_at};
-use program_grammar::{Part, Step, Word, places_law};
+use program_grammar::{StackSymbol, Step, Word, places_law};
 
 /// What went past a limit.
 #[derive(Clone, Copy, Debug, PartialEq, Eq)]
@@ -129,26 +129,26 @@ impl Limits {
         }
     }
 
-    fn take(self, dialect: Dialect, lexeme: u32, part: Part, word: Word) -> Limits
+    fn take(self, dialect: Dialect, lexeme: u32, part: StackSymbol, word: Word) -> Limits
         requires depth { self.depth < 2 ^ 63 }
         requires tokens { self.tokens < 2 ^ 63 }
         ensures { result ≡ takes_limit dialect lexeme part word self }
     {
         match part {
-            Part::OneUnit => self.take_unit(dialect, lexeme, word),
-            Part::OneToken => self.token_begins(dialect, lexeme),
-            Part::Bound => self.take_bound(dialect, lexeme, word),
-            Part::TheClose | Part::TheWatching | Part::TheOn => self.higher(),
+            StackSymbol::OneUnit => self.take_unit(dialect, lexeme, word),
+            StackSymbol::OneToken => self.token_begins(dialect, lexeme),
+            StackSymbol::Bound => self.take_bound(dialect, lexeme, word),
+            StackSymbol::TheClose | StackSymbol::TheWatching | StackSymbol::TheOn => self.higher(),
             _ => self,
         }
     }
 
-    fn leave(self, part: Part) -> Limits
+    fn leave(self, part: StackSymbol) -> Limits
         ensures { result ≡ leaves_limit part self }
     {
         match part {
-            Part::MoreTokens => self.no_tokens(),
-            Part::EndBody | Part::EndLocal => self.higher(),
+            StackSymbol::MoreTokens => self.no_tokens(),
+            StackSymbol::EndBody | StackSymbol::EndLocal => self.higher(),
             _ => self,
         }
     }
@@ -165,8 +165,8 @@ fn first_limit(dialect: Dialect, terms: &[Term<'_>], steps: &[Step]) -> Option<L
     };
     for step in steps {
         limits = match *step {
-            Step::Took(part, place) => limits.take(dialect, place, part, word_at(terms, place)),
-            Step::Left(part) => limits.leave(part),
+            Step::Matched(part, place) => limits.take(dialect, place, part, word_at(terms, place)),
+            Step::Skipped(part) => limits.leave(part),
         };
     }
     limits.found

@@ -15,7 +15,7 @@ ghost use Rattle.tdcc_reader.specs.TermViews.{term_view};
 use crate::fault::ReadFault;
 use crate::scope::Scope;
 use crate::terms::{Term, term_at};
-use program_grammar::{Part, Step, places_law};
+use program_grammar::{StackSymbol, Step, places_law};
 use std::alloc::{AllocError, Global};
 use token_system::Kind;
 
@@ -102,14 +102,14 @@ impl<'a> Naming<'a> {
     }
 
     fn deny_name(&mut self, lexeme: u32, name: &'a [u8])
-        ensures { names_view self.new ≡ takes_name lexeme Part.DeniedName name.now (names_view self.old) }
+        ensures { names_view self.new ≡ takes_name lexeme StackSymbol.DeniedName name.now (names_view self.old) }
     {
         let kind = kind_of(&self.scope, name);
         self.note(unknown(kind, lexeme).or(no_signal(kind, lexeme)));
     }
 
     fn clash_name(&mut self, lexeme: u32, name: &'a [u8])
-        ensures { names_view self.new ≡ takes_name lexeme Part.ClashingName name.now (names_view self.old) }
+        ensures { names_view self.new ≡ takes_name lexeme StackSymbol.ClashingName name.now (names_view self.old) }
     {
         let kind = kind_of(&self.scope, name);
         self.note(unknown(kind, lexeme));
@@ -166,15 +166,15 @@ impl<'a> Naming<'a> {
         self.scope.leave();
     }
 
-    fn take_name(&mut self, lexeme: u32, part: Part, name: &'a [u8]) -> Result<(), AllocError>
+    fn take_name(&mut self, lexeme: u32, part: StackSymbol, name: &'a [u8]) -> Result<(), AllocError>
         ensures { OnOk result (names_view self.new ≡ takes_name lexeme part name.now (names_view self.old)) }
     {
         match part {
-            Part::OneUnit | Part::OneToken => self.use_name(lexeme, name),
-            Part::DeniedName => self.deny_name(lexeme, name),
-            Part::ClashingName => self.clash_name(lexeme, name),
-            Part::DeclaredName | Part::LocalName => self.declare(Kind::Signal, lexeme, name)?,
-            Part::DeclaredIntName | Part::LocalIntName => {
+            StackSymbol::OneUnit | StackSymbol::OneToken => self.use_name(lexeme, name),
+            StackSymbol::DeniedName => self.deny_name(lexeme, name),
+            StackSymbol::ClashingName => self.clash_name(lexeme, name),
+            StackSymbol::DeclaredName | StackSymbol::LocalName => self.declare(Kind::Signal, lexeme, name)?,
+            StackSymbol::DeclaredIntName | StackSymbol::LocalIntName => {
                 self.declare(Kind::Number, lexeme, name)?;
             }
             _ => {}
@@ -182,25 +182,25 @@ impl<'a> Naming<'a> {
         Ok(())
     }
 
-    fn take_number(&mut self, lexeme: u32, part: Part, value: i64)
+    fn take_number(&mut self, lexeme: u32, part: StackSymbol, value: i64)
         ensures { names_view self.new ≡ takes_number lexeme part value (names_view self.old) }
     {
         match part {
-            Part::LowNumber => self.take_low(lexeme, value),
-            Part::HighNumber => self.take_high(value),
+            StackSymbol::LowNumber => self.take_low(lexeme, value),
+            StackSymbol::HighNumber => self.take_high(value),
             _ => {}
         }
     }
 
-    fn take_fixed(&mut self, part: Part)
+    fn take_fixed(&mut self, part: StackSymbol)
         ensures { names_view self.new ≡ takes_fixed part (names_view self.old) }
     {
-        if let Part::Bound = part {
+        if let StackSymbol::Bound = part {
             self.with_bound();
         }
     }
 
-    fn take(&mut self, lexeme: u32, part: Part, term: Term<'a>) -> Result<(), AllocError>
+    fn take(&mut self, lexeme: u32, part: StackSymbol, term: Term<'a>) -> Result<(), AllocError>
         ensures { OnOk result (names_view self.new ≡ takes_names lexeme part (term_view term.entry) (names_view self.old)) }
     {
         match term {
@@ -212,12 +212,12 @@ impl<'a> Naming<'a> {
         Ok(())
     }
 
-    fn leave(&mut self, part: Part)
+    fn leave(&mut self, part: StackSymbol)
         ensures { names_view self.new ≡ leaves_names part (names_view self.old) }
     {
         match part {
-            Part::Bound => self.without_bound(),
-            Part::EndLocal => self.leave_scope(),
+            StackSymbol::Bound => self.without_bound(),
+            StackSymbol::EndLocal => self.leave_scope(),
             _ => {}
         }
     }
@@ -238,8 +238,8 @@ fn first_fault(
     };
     for step in steps {
         match *step {
-            Step::Took(part, place) => naming.take(place, part, term_at(terms, place))?,
-            Step::Left(part) => naming.leave(part),
+            Step::Matched(part, place) => naming.take(place, part, term_at(terms, place))?,
+            Step::Skipped(part) => naming.leave(part),
         }
     }
     Ok(naming.found)

@@ -90,7 +90,7 @@ impl<'a, T: Copy> Scope<'a, T> {
         }
     }
 
-    /// Takes the newest name out of the scope, if there is one.
+    /// Matches the newest name out of the scope, if there is one.
     pub(crate) fn leave(&mut self)
         ensures { self.new ≡ less_first self.old }
     {

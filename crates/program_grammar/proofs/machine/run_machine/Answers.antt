@@ -6,15 +6,15 @@ use Rattle.program_grammar.proofs.machine.run_machine.Goals as goal
 
 pub loop-place-preserved : goal.loop-place-preserved
 loop-place-preserved c =
-    let fed = rw c.if-not-branch.false at c.in_ok-take_word.ensures.fed in
-    let steps = c.in_ok-take_word.ensures.steps c.if-not-branch.false in (
+    let fed = rw c.if-not-branch.false at c.in_ok-match_word.ensures.fed in
+    let steps = c.in_ok-match_word.ensures.steps c.if-not-branch.false in (
       run_more c.args.language c.args.words.now c.loop-place.place _ _ _ c.loop-place-test.true c.loop-place.invariant.0 ∙ fed,
       trace_more c.args.language c.args.words.now c.loop-place.place _ _ _ _ _ _ c.loop-place-test.true c.loop-place.invariant.1 fed steps,
     )
 
 pub returns-then-not-branch : goal.returns-then-not-branch
 returns-then-not-branch c =
-    let fed = rw c.if-not-branch.true at c.in_ok-take_word.ensures.fed in record {
+    let fed = rw c.if-not-branch.true at c.in_ok-match_word.ensures.fed in record {
       within = omega arith;
       to_come = _;
       goes = c.loop-place.invariant.0;
@@ -40,5 +40,5 @@ returns c =
         ap (run_in c.args.language start) (sym (take-length c.args.words.now) ∙ ap (λ n. take n c.args.words.now) (sym at_end)) ∙ c.loop-place.invariant.0,
         list_all-reverse may_end c.loop-place.parts.items ∙ ap (λ l. ended l) (sym c.deref.ensures.value) ∙ sym c.is_ended.ensures ∙ c.if-not-is_ended.false,
       ),
-      c.in_ok-leave_all.ensures ∙ sym (c.loop-place.invariant.1 ∙ ap (λ n. c.loop-place.steps.items ++ trace (reverse c.loop-place.parts.items) c.loop-place.place (drop n c.args.words.now)) at_end ∙ ap (λ l. c.loop-place.steps.items ++ trace (reverse c.loop-place.parts.items) c.loop-place.place l) (drop-length c.args.words.now)),
+      c.in_ok-skip_all.ensures ∙ sym (c.loop-place.invariant.1 ∙ ap (λ n. c.loop-place.steps.items ++ trace (reverse c.loop-place.parts.items) c.loop-place.place (drop n c.args.words.now)) at_end ∙ ap (λ l. c.loop-place.steps.items ++ trace (reverse c.loop-place.parts.items) c.loop-place.place l) (drop-length c.args.words.now)),
     )

@@ -4,7 +4,7 @@ ghost use Rattle.program_grammar.specs.Machine.{may_end};
 
 /// A part of the grammar that is still to come, named by its role, so that what follows need not look at the grammar.
 #[derive(Clone, Copy, Debug, PartialEq, Eq)]
-pub enum Part {
+pub enum StackSymbol {
     /// `signal` or `int`, which begins a declaration, or none.
     Declarations,
     /// `signal` declares this name.
@@ -74,19 +74,19 @@ pub enum Part {
 }
 
 /// Whether the part may be left without a word.
-pub fn may_be_absent(part: Part) -> bool
+pub fn may_be_absent(part: StackSymbol) -> bool
     ensures { result ≡ may_end part }
 {
     matches!(
         part,
-        Part::Declarations
-            | Part::MoreUnits
-            | Part::MoreTokens
-            | Part::Bound
-            | Part::EndTell
-            | Part::EndBody
-            | Part::EndLocal
-            | Part::EndWatch
-            | Part::EndTimed
+        StackSymbol::Declarations
+            | StackSymbol::MoreUnits
+            | StackSymbol::MoreTokens
+            | StackSymbol::Bound
+            | StackSymbol::EndTell
+            | StackSymbol::EndBody
+            | StackSymbol::EndLocal
+            | StackSymbol::EndWatch
+            | StackSymbol::EndTimed
     )
 }

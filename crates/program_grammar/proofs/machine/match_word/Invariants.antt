@@ -1,6 +1,6 @@
 use Rattle.std.proofs.Common.{◌≡◌, ◌++◌, reverse, vec_len}
 use Rattle.program_grammar.specs.Machine.{feed, word_steps}
-use Rattle.program_grammar.proofs.machine.take_word.Given as goal
+use Rattle.program_grammar.proofs.machine.match_word.Given as goal
 
 -- what the word does to the parts is what it does to those that are left, behind the steps so far
 abbrev pub invariant-loop-part : goal.invariant-loop-part
