@@ -7,7 +7,7 @@ use Rattle.std.specs.Fmt.{signed_decimal}
 use Rattle.std.proofs.lemmas.List.{append-nil}
 use Rattle.program_lexemes.specs.declared.lexer.LexKind.TheVariants as kind
 use Rattle.program_lexemes.specs.Forms.{is_white}
-use Rattle.program_lexemes.specs.Pieces.{goes_on, stops}
+use Rattle.program_lexemes.specs.SpacedLexemes.{goes_on, stops}
 use Rattle.program_grammar.specs.Terms.{Term, Number, Signal, Int, In, Skip, If, Then, Else, New, Hence, Next, Semicolon, Range, Ampersand, Bars, OpenBrace, CloseBrace}
 use Rattle.program_grammar.specs.Phrases as g
 use Rattle.program_grammar.specs.Spelling.{token, constraint, unit, agent, program}

@@ -9,8 +9,8 @@ use Rattle.std.proofs.lemmas.Int.{ints}
 use Rattle.program_lexemes.specs.declared.lexer.LexKind.TheVariants as kind
 use Rattle.program_lexemes.specs.declared.bytes.TextForm.{TextForm}
 use Rattle.program_lexemes.specs.Forms.{kind_of, is_white, is_word_byte, is_digit, is_minus}
-use Rattle.program_lexemes.specs.Numbers.{is_long, number_of, digits_of}
-use Rattle.program_lexemes.specs.Pieces.{goes_on, stops}
+use Rattle.program_lexemes.specs.Numbers.{is_long, value_of_number, digits_of}
+use Rattle.program_lexemes.specs.SpacedLexemes.{goes_on, stops}
 use Rattle.program_lexemes.proofs.Printed.{decimal_kind, minus_decimal_kind, number_of-decimal, number_of-minus_decimal}
 use Rattle.program_grammar.specs.Terms.{Term, Name, Number, Bang, Hash, GreaterEqual, LessEqual}
 use Rattle.program_grammar.specs.Spelling.{token}
@@ -59,7 +59,7 @@ number_kind : (form : TextForm) (k : ℤ) → is_bound k ≡ true → kind_of fo
 number_kind form (pos n) h = let b : IsTrue (is_bound (pos n)) = h in let lt : n < 10 ^ 9 = grind (arith, ints) in decimal_kind form n (omega arith)
 number_kind form (negsuc n) h = let b : IsTrue (is_bound (negsuc n)) = h in let lt : suc n < 10 ^ 9 = grind (arith, ints) in minus_decimal_kind form (suc n) (omega arith)
 
-number_value : (k : ℤ) → is_bound k ≡ true → number_of (signed_decimal k) ≡ k
+number_value : (k : ℤ) → is_bound k ≡ true → value_of_number (signed_decimal k) ≡ k
 number_value (pos n) h = let b : IsTrue (is_bound (pos n)) = h in let lt : n < 10 ^ 9 = grind (arith, ints) in number_of-decimal n (omega arith)
 number_value (negsuc n) h = let b : IsTrue (is_bound (negsuc n)) = h in let lt : suc n < 10 ^ 9 = grind (arith, ints) in number_of-minus_decimal (suc n) (omega arith)
 

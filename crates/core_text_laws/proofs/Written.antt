@@ -9,9 +9,9 @@ use Rattle.program_lexemes.specs.declared.lexer.Lexeme.{Lexeme}
 use Rattle.program_lexemes.specs.declared.bytes.TextForm.{TextForm}
 use Rattle.program_lexemes.specs.declared.bytes.TextForm.TheVariants as forms
 use Rattle.program_lexemes.specs.Forms.{kind_of, is_white}
-use Rattle.program_lexemes.specs.Lexemes.{AreLexemes, bytes_of}
+use Rattle.program_lexemes.specs.Lexemes.{AreLexemes, bytes_of_lexeme}
 use Rattle.program_lexemes.specs.Numbers.{is_long}
-use Rattle.program_lexemes.specs.Pieces.{Piece, joined, spans, goes_on, stops, AreCut}
+use Rattle.program_lexemes.specs.SpacedLexemes.{SpacedLexeme, spaced_text, spans, goes_on, stops, AreCut}
 use Rattle.program_lexemes.proofs.Joined.{joined_reads}
 use Rattle.program_grammar.specs.Terms.{Term}
 use Rattle.tdcc_reader.specs.Sayings.{says, terms_of, too_long}
@@ -20,19 +20,19 @@ pub append_three : (a b c rest : List ℕ) → ((a ++ b) ++ c) ++ rest ≡ a ++ 
 append_three a b c rest = append_assoc (a ++ b) c rest ∙ append_assoc a b (c ++ rest)
 
 -- no piece is too long
-abbrev AreShort : List Piece → Type 0
+abbrev AreShort : List SpacedLexeme → Type 0
 AreShort [] = Unit {0}
 AreShort (q ∷ ps) = (is_long q.kind q.bytes ≡ false) × AreShort ps
 
 -- what the pieces say
-abbrev said : List Piece → List Term
+abbrev said : List SpacedLexeme → List Term
 said [] = []
 said (q ∷ ps) = says q.kind q.bytes ∷ said ps
 
 -- the text is made of pieces that say these terms
 pub record IsWritten (form : TextForm) (text : List ℕ) (terms : List Term) : Type 0 where
-  pub pieces : List Piece
-  pub text_is : joined pieces ≡ text
+  pub pieces : List SpacedLexeme
+  pub text_is : spaced_text pieces ≡ text
   pub cut : AreCut form pieces
   pub short : AreShort pieces
   pub terms_are : said pieces ≡ terms
@@ -73,20 +73,20 @@ long : (pre a b : List ℕ) → length ((pre ++ a) ++ b) ≡ length pre + length
 long pre a b = length-append (pre ++ a) b ∙ ap (λ (n : ℕ). n + length b) (length-append pre a)
 
 -- what is read off the bytes of each lexeme is read off those of its piece
-abbrev read_all : {X : Type 0} → (LexKind → List ℕ → X) → List Piece → List X
+abbrev read_all : {X : Type 0} → (LexKind → List ℕ → X) → List SpacedLexeme → List X
 read_all f [] = []
 read_all f (q ∷ ps) = f q.kind q.bytes ∷ read_all f ps
 
-spans_read : {X : Type 0} (f : LexKind → List ℕ → X) (ps : List Piece) (pre : List ℕ) (n : ℕ) → n ≡ length pre → map (λ l. f l.kind (bytes_of (pre ++ joined ps) l)) (spans n ps) ≡ read_all f ps
+spans_read : {X : Type 0} (f : LexKind → List ℕ → X) (ps : List SpacedLexeme) (pre : List ℕ) (n : ℕ) → n ≡ length pre → map (λ l. f l.kind (bytes_of_lexeme (pre ++ spaced_text ps) l)) (spans n ps) ≡ read_all f ps
 spans_read f [] pre n e = refl
 spans_read {X} f (q ∷ ps) pre n e =
-    let whole : List ℕ = pre ++ joined (q ∷ ps) in
+    let whole : List ℕ = pre ++ spaced_text (q ∷ ps) in
     let front : List ℕ = (pre ++ q.bytes) ++ q.space in
-    ap (λ (x : X). x ∷ map (λ l. f l.kind (bytes_of whole l)) (spans (n + length q.bytes + length q.space) ps)) (ap (f q.kind) (first_bytes pre q.bytes (q.space ++ joined ps) n e))
-    ∙ ap (λ (t : List ℕ). f q.kind q.bytes ∷ map (λ l. f l.kind (bytes_of t l)) (spans (n + length q.bytes + length q.space) ps)) (sym (append_three pre q.bytes q.space (joined ps)))
+    ap (λ (x : X). x ∷ map (λ l. f l.kind (bytes_of_lexeme whole l)) (spans (n + length q.bytes + length q.space) ps)) (ap (f q.kind) (first_bytes pre q.bytes (q.space ++ spaced_text ps) n e))
+    ∙ ap (λ (t : List ℕ). f q.kind q.bytes ∷ map (λ l. f l.kind (bytes_of_lexeme t l)) (spans (n + length q.bytes + length q.space) ps)) (sym (append_three pre q.bytes q.space (spaced_text ps)))
     ∙ ap (λ (xs : List X). f q.kind q.bytes ∷ xs) (spans_read f ps front (n + length q.bytes + length q.space) (let l = long pre q.bytes q.space in omega arith))
 
-said-read : (ps : List Piece) → read_all says ps ≡ said ps
+said-read : (ps : List SpacedLexeme) → read_all says ps ≡ said ps
 said-read [] = refl
 said-read (q ∷ ps) = ap (λ (ts : List Term). says q.kind q.bytes ∷ ts) (said-read ps)
 
@@ -104,7 +104,7 @@ no_position test xs h =
     let e = none_passes test xs h in
     ap (λ (b : Bool). cond b (Some (position_or_len test xs)) None) (le-ltb (position_or_len test xs) (length xs) (omega arith))
 
-short_read : (ps : List Piece) → AreShort ps → list_all (λ (b : Bool). not b) (read_all is_long ps) ≡ true
+short_read : (ps : List SpacedLexeme) → AreShort ps → list_all (λ (b : Bool). not b) (read_all is_long ps) ≡ true
 short_read [] h = refl
 short_read (q ∷ ps) h = ap (λ (b : Bool). not b && list_all (λ (c : Bool). not c) (read_all is_long ps)) h.0 ∙ short_read ps h.1
 
@@ -121,6 +121,6 @@ written_lexed form text terms w =
     subst P w.text_is (record {
       lexemes = spans 0 w.pieces;
       lexed = joined_reads form w.pieces w.cut;
-      short = no_position (too_long (joined w.pieces)) (spans 0 w.pieces) (ap (list_all (λ (b : Bool). not b)) (spans_read is_long w.pieces [] 0 refl) ∙ short_read w.pieces w.short);
+      short = no_position (too_long (spaced_text w.pieces)) (spans 0 w.pieces) (ap (list_all (λ (b : Bool). not b)) (spans_read is_long w.pieces [] 0 refl) ∙ short_read w.pieces w.short);
       terms_are = spans_read says w.pieces [] 0 refl ∙ said-read w.pieces ∙ w.terms_are;
     })

@@ -8,7 +8,7 @@ use Rattle.program_lexemes.specs.declared.lexer.LexKind.{LexKind}
 use Rattle.program_lexemes.specs.declared.lexer.LexKind.TheVariants as kind
 use Rattle.program_lexemes.specs.declared.bytes.TextForm.TheVariants.{Program}
 use Rattle.program_lexemes.specs.Forms.{kind_of, is_white, is_word_byte, is_digit}
-use Rattle.program_lexemes.specs.Pieces.{stops}
+use Rattle.program_lexemes.specs.SpacedLexemes.{stops}
 use Rattle.program_lexemes.proofs.PrefixLengths.{and_left, and_right}
 use Rattle.program_grammar.specs.Terms.{Term, Name, Number, Signal, Int, In, If, Then, Else, Next, Always, When, Do, Watching, Semicolon, Comma, Range, Bars, GreaterEqual}
 use Rattle.program_grammar.specs.Spelling.{names, items, unit, agent, program}

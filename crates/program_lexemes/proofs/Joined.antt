@@ -12,7 +12,7 @@ use Rattle.program_lexemes.specs.declared.bytes.TextForm.{TextForm}
 use Rattle.program_lexemes.specs.Spellings.{is_keyword, is_symbol}
 use Rattle.program_lexemes.specs.Forms.{is_letter, is_digit, is_word_byte, is_minus, is_dollar, is_white, are_digits, are_few_digits, word_kind, kind_if, kind_of}
 use Rattle.program_lexemes.specs.Lexemes.{IsLongest, AreWhite, Reads}
-use Rattle.program_lexemes.specs.Pieces.{Piece, joined, spans, goes_on, stops, AreCut}
+use Rattle.program_lexemes.specs.SpacedLexemes.{SpacedLexeme, spaced_text, spans, goes_on, stops, AreCut}
 use Rattle.program_lexemes.proofs.PrefixLengths.{and_left, and_right}
 use Rattle.program_lexemes.proofs.Spelled.{no_symbol}
 use Rattle.program_lexemes.proofs.LongestLexeme.{kinds}
@@ -119,21 +119,21 @@ long : (pre s w : List ℕ) → length ((pre ++ s) ++ w) ≡ length pre + length
 long pre s w = length-append (pre ++ s) w ∙ ap (λ n. n + length w) (length-append pre s)
 
 -- with the white space s in front of the pieces
-spaced_reads : (form : TextForm) (ps : List Piece) (pre s : List ℕ) → list_all is_white s ≡ true → AreCut form ps → Reads form (pre ++ (s ++ joined ps)) (length pre) (spans (length pre + length s) ps) (length (pre ++ (s ++ joined ps)))
+spaced_reads : (form : TextForm) (ps : List SpacedLexeme) (pre s : List ℕ) → list_all is_white s ≡ true → AreCut form ps → Reads form (pre ++ (s ++ spaced_text ps)) (length pre) (spans (length pre + length s) ps) (length (pre ++ (s ++ spaced_text ps)))
 spaced_reads form [] pre s e c =
     subst (AreWhite (pre ++ (s ++ [])) (length pre)) (sym (length-append pre (s ++ []) ∙ ap (λ n. length pre + n) (ap length (append-nil s)))) (space_white pre s [] e)
 spaced_reads form (p ∷ ps) pre s e (cut, c) = (
-  space_white pre s (joined (p ∷ ps)) e,
+  space_white pre s (spaced_text (p ∷ ps)) e,
   record {
     size = length p.bytes;
     ends = refl;
-    longest = subst (λ (l : List ℕ). IsLongest form l (length p.bytes) p.kind) (sym (behind pre s (joined (p ∷ ps)))) (cut_longest form p.bytes (p.space ++ joined ps) p.kind cut.is cut.cut);
+    longest = subst (λ (l : List ℕ). IsLongest form l (length p.bytes) p.kind) (sym (behind pre s (spaced_text (p ∷ ps)))) (cut_longest form p.bytes (p.space ++ spaced_text ps) p.kind cut.is cut.cut);
   },
-  subst (λ (n : ℕ). Reads form (pre ++ (s ++ joined (p ∷ ps))) n (spans (n + length p.space) ps) (length (pre ++ (s ++ joined (p ∷ ps))))) (long pre s p.bytes)
-      (subst (λ (l : List ℕ). Reads form l (length ((pre ++ s) ++ p.bytes)) (spans (length ((pre ++ s) ++ p.bytes) + length p.space) ps) (length l)) (regroup pre s p.bytes (p.space ++ joined ps))
+  subst (λ (n : ℕ). Reads form (pre ++ (s ++ spaced_text (p ∷ ps))) n (spans (n + length p.space) ps) (length (pre ++ (s ++ spaced_text (p ∷ ps))))) (long pre s p.bytes)
+      (subst (λ (l : List ℕ). Reads form l (length ((pre ++ s) ++ p.bytes)) (spans (length ((pre ++ s) ++ p.bytes) + length p.space) ps) (length l)) (regroup pre s p.bytes (p.space ++ spaced_text ps))
       (spaced_reads form ps ((pre ++ s) ++ p.bytes) p.space cut.white c)),
 )
 
 -- A text of pieces that are cut from one another has these lexemes.
-pub joined_reads : (form : TextForm) (ps : List Piece) → AreCut form ps → Reads form (joined ps) 0 (spans 0 ps) (length (joined ps))
+pub joined_reads : (form : TextForm) (ps : List SpacedLexeme) → AreCut form ps → Reads form (spaced_text ps) 0 (spans 0 ps) (length (spaced_text ps))
 joined_reads form ps c = spaced_reads form ps [] [] refl c

@@ -8,7 +8,7 @@ use Rattle.program_lexemes.specs.declared.lexer.LexKind.TheVariants as kind
 use Rattle.program_lexemes.specs.declared.bytes.TextForm.{TextForm}
 use Rattle.program_lexemes.specs.Spellings.{is_symbol}
 use Rattle.program_lexemes.specs.Forms.{is_letter, is_digit, is_word_byte, is_minus, is_dollar, are_digits, are_few_digits, word_kind, kind_if, kind_of}
-use Rattle.program_lexemes.specs.Prefixes.{IsLongestFront, NoFront}
+use Rattle.program_lexemes.specs.Prefixes.{IsLongestPrefix, NoPrefix}
 use Rattle.program_lexemes.specs.Lexemes.{IsLongest, NoLexeme}
 
 -- the kind of some bytes, by what the first one is
@@ -48,7 +48,7 @@ some_true true k h = refl
 some_true false k h = cc
 
 -- the longest front of the others that passes makes the longest lexeme
-pub longest_behind : (form : TextForm) (b : ℕ) (bs : List ℕ) (n : ℕ) (test : List ℕ → Bool) (kind : List ℕ → LexKind) → ByTest form b test kind → IsLongestFront test bs n → IsLongest form (b ∷ bs) (suc n) (kind (take n bs))
+pub longest_behind : (form : TextForm) (b : ℕ) (bs : List ℕ) (n : ℕ) (test : List ℕ → Bool) (kind : List ℕ → LexKind) → ByTest form b test kind → IsLongestPrefix test bs n → IsLongest form (b ∷ bs) (suc n) (kind (take n bs))
 longest_behind form b bs n test kind by front = record {
   within = omega (arith, front.within);
   is = by (take n bs) ∙ ap (λ t. kind_if t (kind (take n bs))) front.passes;
@@ -60,12 +60,12 @@ longest_behind form b bs n test kind by front = record {
     longest (suc m) h s =
         let within : m ≤ n = front.longest m (omega arith) (some_true (test (take m bs)) (kind (take m bs)) (subst IsSome (by (take m bs)) s)) in omega arith
 
-pub none_behind : (form : TextForm) (b : ℕ) (bs : List ℕ) (test : List ℕ → Bool) (kind : List ℕ → LexKind) → ByTest form b test kind → NoFront test bs → NoLexeme form (b ∷ bs)
+pub none_behind : (form : TextForm) (b : ℕ) (bs : List ℕ) (test : List ℕ → Bool) (kind : List ℕ → LexKind) → ByTest form b test kind → NoPrefix test bs → NoLexeme form (b ∷ bs)
 none_behind form b bs test kind by front zero h = refl
 none_behind form b bs test kind by front (suc m) h = by (take m bs) ∙ ap (λ t. kind_if t (kind (take m bs))) (front m (omega arith))
 
 -- the same of symbols, where the first byte is looked at with the others
-pub longest_symbol : (form : TextForm) (b : ℕ) (bs : List ℕ) (n : ℕ) → ByTest form b (λ bs. is_symbol (b ∷ bs)) (λ bs. kind.Symbol) → IsLongestFront is_symbol (b ∷ bs) n → IsLongest form (b ∷ bs) n kind.Symbol
+pub longest_symbol : (form : TextForm) (b : ℕ) (bs : List ℕ) (n : ℕ) → ByTest form b (λ bs. is_symbol (b ∷ bs)) (λ bs. kind.Symbol) → IsLongestPrefix is_symbol (b ∷ bs) n → IsLongest form (b ∷ bs) n kind.Symbol
 longest_symbol form b bs zero by front = let none : false ≡ true = front.passes in cc
 longest_symbol form b bs (suc n) by front = longest_behind form b bs n (λ bs. is_symbol (b ∷ bs)) (λ bs. kind.Symbol) by record {
   within = let within = front.within in omega arith;
@@ -73,7 +73,7 @@ longest_symbol form b bs (suc n) by front = longest_behind form b bs n (λ bs. i
   longest = λ m h e. let within : suc m ≤ suc n = front.longest (suc m) (omega arith) e in omega arith;
 }
 
-pub no_symbol_front : (form : TextForm) (b : ℕ) (bs : List ℕ) → ByTest form b (λ bs. is_symbol (b ∷ bs)) (λ bs. kind.Symbol) → NoFront is_symbol (b ∷ bs) → NoLexeme form (b ∷ bs)
+pub no_symbol_front : (form : TextForm) (b : ℕ) (bs : List ℕ) → ByTest form b (λ bs. is_symbol (b ∷ bs)) (λ bs. kind.Symbol) → NoPrefix is_symbol (b ∷ bs) → NoLexeme form (b ∷ bs)
 no_symbol_front form b bs by front = none_behind form b bs (λ bs. is_symbol (b ∷ bs)) (λ bs. kind.Symbol) by (λ m h. front (suc m) (omega arith))
 
 pub no_bytes : (form : TextForm) → NoLexeme form []
@@ -86,20 +86,20 @@ has_byte form bytes zero k h = let e : ◌≡◌ {A = Option LexKind} None (Some
 has_byte form bytes (suc n) k h = omega arith
 
 -- the same of bytes that are known to begin so, and of a length and a kind that are known to be these
-pub longest_at : (form : TextForm) (bytes : List ℕ) (b : ℕ) (bs : List ℕ) (n m : ℕ) (test : List ℕ → Bool) (kind : List ℕ → LexKind) (k : LexKind) → bytes ≡ b ∷ bs → n ≡ m → k ≡ kind (take n bs) → ByTest form b test kind → IsLongestFront test bs m → IsLongest form bytes (n + 1) k
+pub longest_at : (form : TextForm) (bytes : List ℕ) (b : ℕ) (bs : List ℕ) (n m : ℕ) (test : List ℕ → Bool) (kind : List ℕ → LexKind) (k : LexKind) → bytes ≡ b ∷ bs → n ≡ m → k ≡ kind (take n bs) → ByTest form b test kind → IsLongestPrefix test bs m → IsLongest form bytes (n + 1) k
 longest_at form bytes b bs n m test kind k eb en ek by front =
     subst (λ (l : List ℕ). IsLongest form l (n + 1) k) (sym eb)
     (subst (λ (i : ℕ). IsLongest form (b ∷ bs) i k) (ap suc (sym en) ∙ sym (add-one n))
     (subst (λ (j : LexKind). IsLongest form (b ∷ bs) (suc m) j) (ap (λ i. kind (take i bs)) (sym en) ∙ sym ek) (longest_behind form b bs m test kind by front)))
 
-pub none_at : (form : TextForm) (bytes : List ℕ) (b : ℕ) (bs : List ℕ) (test : List ℕ → Bool) (kind : List ℕ → LexKind) → bytes ≡ b ∷ bs → ByTest form b test kind → NoFront test bs → NoLexeme form bytes
+pub none_at : (form : TextForm) (bytes : List ℕ) (b : ℕ) (bs : List ℕ) (test : List ℕ → Bool) (kind : List ℕ → LexKind) → bytes ≡ b ∷ bs → ByTest form b test kind → NoPrefix test bs → NoLexeme form bytes
 none_at form bytes b bs test kind eb by front = subst (NoLexeme form) (sym eb) (none_behind form b bs test kind by front)
 
-pub symbol_at : (form : TextForm) (bytes : List ℕ) (b : ℕ) (bs : List ℕ) (n : ℕ) → bytes ≡ b ∷ bs → ByTest form b (λ bs. is_symbol (b ∷ bs)) (λ bs. kind.Symbol) → IsLongestFront is_symbol bytes n → IsLongest form bytes n kind.Symbol
-symbol_at form bytes b bs n eb by front = subst (λ (l : List ℕ). IsLongest form l n kind.Symbol) (sym eb) (longest_symbol form b bs n by (subst (λ (l : List ℕ). IsLongestFront is_symbol l n) eb front))
+pub symbol_at : (form : TextForm) (bytes : List ℕ) (b : ℕ) (bs : List ℕ) (n : ℕ) → bytes ≡ b ∷ bs → ByTest form b (λ bs. is_symbol (b ∷ bs)) (λ bs. kind.Symbol) → IsLongestPrefix is_symbol bytes n → IsLongest form bytes n kind.Symbol
+symbol_at form bytes b bs n eb by front = subst (λ (l : List ℕ). IsLongest form l n kind.Symbol) (sym eb) (longest_symbol form b bs n by (subst (λ (l : List ℕ). IsLongestPrefix is_symbol l n) eb front))
 
-pub no_symbol_at : (form : TextForm) (bytes : List ℕ) (b : ℕ) (bs : List ℕ) → bytes ≡ b ∷ bs → ByTest form b (λ bs. is_symbol (b ∷ bs)) (λ bs. kind.Symbol) → NoFront is_symbol bytes → NoLexeme form bytes
-no_symbol_at form bytes b bs eb by front = subst (NoLexeme form) (sym eb) (no_symbol_front form b bs by (subst (NoFront is_symbol) eb front))
+pub no_symbol_at : (form : TextForm) (bytes : List ℕ) (b : ℕ) (bs : List ℕ) → bytes ≡ b ∷ bs → ByTest form b (λ bs. is_symbol (b ∷ bs)) (λ bs. kind.Symbol) → NoPrefix is_symbol bytes → NoLexeme form bytes
+no_symbol_at form bytes b bs eb by front = subst (NoLexeme form) (sym eb) (no_symbol_front form b bs by (subst (NoPrefix is_symbol) eb front))
 
 pub no_minus : (b : ℕ) → b ≢ 45 → is_minus b ≡ false
 no_minus b h = go (is_minus b) refl

@@ -4,7 +4,7 @@ use Rattle.std.specs.Prelude.{if◌then◌else◌, ◌&&◌, nat_le}
 use Rattle.std.specs.List.{list_all}
 use Rattle.std.proofs.lemmas.List.{length-take-le}
 use Rattle.program_lexemes.specs.Forms.{is_digit, are_digits, are_few_digits}
-use Rattle.program_lexemes.specs.Prefixes.{prefix_len, IsLongestFront, NoFront}
+use Rattle.program_lexemes.specs.Prefixes.{prefix_len, IsLongestPrefix, NoPrefix}
 
 pub and_left : (a b : Bool) → (a && b) ≡ true → a ≡ true
 and_left true b e = refl
@@ -43,7 +43,7 @@ prefix_longest p (b ∷ bs) (suc m) h e = go (p b) refl (prefix_longest p bs m (
     go true q ih = omega arith
     go false q ih = let w : p b ≡ true = and_left (p b) (list_all p (take m bs)) e in cc
 
-pub prefix_front : (p : ℕ → Bool) (bs : List ℕ) → IsLongestFront (list_all p) bs (prefix_len p bs)
+pub prefix_front : (p : ℕ → Bool) (bs : List ℕ) → IsLongestPrefix (list_all p) bs (prefix_len p bs)
 prefix_front p bs = record {
   within = prefix_within p bs;
   passes = prefix_passes p bs (prefix_len p bs) (omega arith);
@@ -63,7 +63,7 @@ digits_pass (d ∷ ds) (suc m) h k = prefix_passes is_digit (d ∷ ds) (suc m) k
 digits_longest : (bs : List ℕ) (m : ℕ) → m ≤ length bs → are_digits (take m bs) ≡ true → m ≤ prefix_len is_digit bs
 digits_longest bs m h e = prefix_longest is_digit bs m h (are_all (take m bs) e)
 
-pub digits_front : (bs : List ℕ) → 0 < prefix_len is_digit bs → IsLongestFront are_digits bs (prefix_len is_digit bs)
+pub digits_front : (bs : List ℕ) → 0 < prefix_len is_digit bs → IsLongestPrefix are_digits bs (prefix_len is_digit bs)
 digits_front bs h = record {
   within = prefix_within is_digit bs;
   passes = digits_pass bs (prefix_len is_digit bs) h (omega arith);
@@ -78,7 +78,7 @@ not_true : (t : Bool) → (t ≡ true → ⊥) → t ≡ false
 not_true true h = absurd (h refl)
 not_true false h = refl
 
-pub no_digits_front : (bs : List ℕ) → prefix_len is_digit bs ≡ 0 → NoFront are_digits bs
+pub no_digits_front : (bs : List ℕ) → prefix_len is_digit bs ≡ 0 → NoPrefix are_digits bs
 no_digits_front bs e = λ m h. not_true (are_digits (take m bs)) (no_digits bs m e h)
 
 -- at most nine of them
@@ -88,7 +88,7 @@ few m h = grind arith
 few_le : (m : ℕ) → nat_le m 9 ≡ true → m ≤ 9
 few_le m h = grind arith
 
-pub few_digits_front : (bs : List ℕ) → 0 < min (prefix_len is_digit bs) 9 → IsLongestFront are_few_digits bs (min (prefix_len is_digit bs) 9)
+pub few_digits_front : (bs : List ℕ) → 0 < min (prefix_len is_digit bs) 9 → IsLongestPrefix are_few_digits bs (min (prefix_len is_digit bs) 9)
 few_digits_front bs h = record {
   within = within;
   passes = both_true (are_digits (take (min (prefix_len is_digit bs) 9) bs)) (nat_le (length (take (min (prefix_len is_digit bs) 9) bs)) 9) (digits_pass bs (min (prefix_len is_digit bs) 9) h (omega arith)) (few (length (take (min (prefix_len is_digit bs) 9) bs)) (omega (arith, length-take-le (min (prefix_len is_digit bs) 9) bs within)));
@@ -104,5 +104,5 @@ few_digits_front bs h = record {
         let short : length (take m bs) ≤ 9 = few_le (length (take m bs)) (and_right (are_digits (take m bs)) (nat_le (length (take m bs)) 9) e) in
         omega (arith, all, short, length-take-le m bs h)
 
-pub no_few_digits_front : (bs : List ℕ) → min (prefix_len is_digit bs) 9 ≡ 0 → NoFront are_few_digits bs
+pub no_few_digits_front : (bs : List ℕ) → min (prefix_len is_digit bs) 9 ≡ 0 → NoPrefix are_few_digits bs
 no_few_digits_front bs e = λ m h. ap (λ t. t && nat_le (length (take m bs)) 9) (no_digits_front bs (omega arith) m h)

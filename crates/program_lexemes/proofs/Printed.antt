@@ -9,7 +9,7 @@ use Rattle.std.proofs.lemmas.Fmt.{decimal_is_IsNumeral}
 use Rattle.program_lexemes.specs.declared.lexer.LexKind.TheVariants as kind
 use Rattle.program_lexemes.specs.declared.bytes.TextForm.{TextForm}
 use Rattle.program_lexemes.specs.Forms.{is_letter, is_digit, are_digits, kind_if, kind_of}
-use Rattle.program_lexemes.specs.Numbers.{number_of}
+use Rattle.program_lexemes.specs.Numbers.{value_of_number}
 use Rattle.program_lexemes.proofs.KindSays.{no_minus}
 use Rattle.program_lexemes.proofs.LongestLexeme.{by_digit}
 
@@ -54,12 +54,12 @@ decimal_kind form n h = let (numeral, value) = decimal_is_IsNumeral n h in numer
 pub minus_decimal_kind : (form : TextForm) (n : ℕ) → n < 2 ^ 64 → kind_of form (45 ∷ decimal n) ≡ Some kind.Number
 minus_decimal_kind form n h = ap (λ t. kind_if t kind.Number) (decimal_digits n h)
 
-numeral_value : (ds : List ℕ) (n : ℕ) → 0 < length ds → AllDigits 10 ds → digits_value 10 ds ≡ n → number_of ds ≡ pos n
+numeral_value : (ds : List ℕ) (n : ℕ) → 0 < length ds → AllDigits 10 ds → digits_value 10 ds ≡ n → value_of_number ds ≡ pos n
 numeral_value [] n h all e = absurd (omega (arith, h))
 numeral_value (d ∷ ds) n h (digit, all) e = ap (λ t. if t then neg_ℤ (pos (digits_value 10 ds)) else pos (digits_value 10 (d ∷ ds))) (no_minus d (range_digit d (digit_from_value d digit))) ∙ ap pos e
 
-pub number_of-decimal : (n : ℕ) → n < 2 ^ 64 → number_of (decimal n) ≡ pos n
+pub number_of-decimal : (n : ℕ) → n < 2 ^ 64 → value_of_number (decimal n) ≡ pos n
 number_of-decimal n h = let (numeral, value) = decimal_is_IsNumeral n h in numeral_value (decimal n) n numeral.0 numeral.1 value
 
-pub number_of-minus_decimal : (n : ℕ) → n < 2 ^ 64 → number_of (45 ∷ decimal n) ≡ neg_ℤ (pos n)
+pub number_of-minus_decimal : (n : ℕ) → n < 2 ^ 64 → value_of_number (45 ∷ decimal n) ≡ neg_ℤ (pos n)
 number_of-minus_decimal n h = let (numeral, value) = decimal_is_IsNumeral n h in ap (λ v. neg_ℤ (pos v)) value

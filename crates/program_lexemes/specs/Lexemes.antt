@@ -47,16 +47,16 @@ pub record IsBad (form : TextForm) (text : List ℕ) (offset : ℕ) : Type 0 whe
   pub before : (ls : List Lexeme) × Reads form text 0 ls offset
 
 -- a bad byte is at its offset, and want of memory says nothing of the text
-abbrev pub IsFaultOf : TextForm → List ℕ → LexFault → Type 0
-IsFaultOf form text (Bad offset) = IsBad form text offset
-IsFaultOf form text Memory = Unit {0}
+abbrev pub IsLexFault : TextForm → List ℕ → LexFault → Type 0
+IsLexFault form text (Bad offset) = IsBad form text offset
+IsLexFault form text Memory = Unit {0}
 
 -- the bytes of a lexeme
-abbrev pub bytes_of : List ℕ → Lexeme → List ℕ
-bytes_of text l = take (l.end - l.start) (drop l.start text)
+abbrev pub bytes_of_lexeme : List ℕ → Lexeme → List ℕ
+bytes_of_lexeme text l = take (l.end - l.start) (drop l.start text)
 
 -- the lexeme lies in the text, has a byte at least, and its bytes are of its kind
 pub record IsIn (form : TextForm) (text : List ℕ) (l : Lexeme) : Type 0 where
   pub ordered : l.start < l.end
   pub within : l.end ≤ length text
-  pub is : kind_of form (bytes_of text l) ≡ Some l.kind
+  pub is : kind_of form (bytes_of_lexeme text l) ≡ Some l.kind

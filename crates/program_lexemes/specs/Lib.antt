@@ -2,5 +2,5 @@ pub mod Spellings
 pub mod Forms
 pub mod Lexemes
 pub mod Prefixes
-pub mod Pieces
+pub mod SpacedLexemes
 pub mod Numbers

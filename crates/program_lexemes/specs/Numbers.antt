@@ -15,9 +15,9 @@ abbrev pub is_number : List ℕ → Bool
 is_number bytes = are_digits (digits_of bytes)
 
 -- the value of a number: that of its digits as a decimal numeral, negated where a minus stands in front
-abbrev pub number_of : List ℕ → ℤ
-number_of [] = pos 0
-number_of (b ∷ bs) = if is_minus b then neg_ℤ (pos (digits_value 10 bs)) else pos (digits_value 10 (b ∷ bs))
+abbrev pub value_of_number : List ℕ → ℤ
+value_of_number [] = pos 0
+value_of_number (b ∷ bs) = if is_minus b then neg_ℤ (pos (digits_value 10 bs)) else pos (digits_value 10 (b ∷ bs))
 
 -- a name of more than 32 bytes, or a number of more than 9 digits
 abbrev pub is_long : LexKind → List ℕ → Bool

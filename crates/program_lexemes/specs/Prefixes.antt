@@ -7,11 +7,11 @@ prefix_len test [] = 0
 prefix_len test (b ∷ bs) = if test b then suc (prefix_len test bs) else 0
 
 -- so many bytes at the front pass together, and no more do
-pub record IsLongestFront (test : List ℕ → Bool) (bytes : List ℕ) (size : ℕ) : Type 0 where
+pub record IsLongestPrefix (test : List ℕ → Bool) (bytes : List ℕ) (size : ℕ) : Type 0 where
   pub within : size ≤ length bytes
   pub passes : test (take size bytes) ≡ true
   pub longest : (n : ℕ) → n ≤ length bytes → test (take n bytes) ≡ true → n ≤ size
 
 -- however many bytes at the front do not pass together
-abbrev pub NoFront : (List ℕ → Bool) → List ℕ → Type 0
-NoFront test bytes = (n : ℕ) → n ≤ length bytes → test (take n bytes) ≡ false
+abbrev pub NoPrefix : (List ℕ → Bool) → List ℕ → Type 0
+NoPrefix test bytes = (n : ℕ) → n ≤ length bytes → test (take n bytes) ≡ false

@@ -2,8 +2,8 @@
 ghost use Rattle.std.specs.Prelude.{◌≡◌, ◌<◌, ◌^◌, ℕ, List, Some, decimal, neg_ℤ, pos, true, ◌∷◌};
 ghost use Rattle.program_lexemes.specs.Forms.{kind_of};
 ghost use Rattle.program_lexemes.specs.Lexemes.{AreLexemes};
-ghost use Rattle.program_lexemes.specs.Numbers.{is_number, number_of};
-ghost use Rattle.program_lexemes.specs.Pieces.{AreCut, Piece, joined, spans};
+ghost use Rattle.program_lexemes.specs.Numbers.{is_number, value_of_number};
+ghost use Rattle.program_lexemes.specs.SpacedLexemes.{AreCut, SpacedLexeme, spaced_text, spans};
 ghost use Rattle.program_lexemes.specs.Spellings.{is_keyword, is_symbol, keyword_bytes, keyword_named, symbol_bytes, symbol_named};
 ghost use Rattle.program_lexemes.specs.declared.keywords.Keyword.{Keyword};
 ghost use Rattle.program_lexemes.specs.declared.symbols.Symbol.{Symbol};
@@ -13,8 +13,8 @@ ghost use Rattle.program_lexemes.specs.declared.lexer.LexKind.TheVariants as Lex
 /// A text that is put together from lexemes with white space behind them, each cut from what follows it, has these
 /// lexemes and no others.
 pub fn joined_law()
-    ensures { (form : TextForm) (ps : List Piece) → AreCut form ps
-        → AreLexemes form (joined ps) (spans 0 ps) }
+    ensures { (form : TextForm) (ps : List SpacedLexeme) → AreCut form ps
+        → AreLexemes form (spaced_text ps) (spans 0 ps) }
 {}
 
 /// Keywords and symbols are told apart by their spelling.
@@ -40,6 +40,6 @@ pub fn numerals_law()
         → kind_of form (decimal n) ≡ Some LexKind.Number }
     ensures minus_kind { (form : TextForm) (n : ℕ) → n < 2 ^ 64
         → kind_of form (45 ∷ decimal n) ≡ Some LexKind.Number }
-    ensures value { (n : ℕ) → n < 2 ^ 64 → number_of (decimal n) ≡ pos n }
-    ensures minus_value { (n : ℕ) → n < 2 ^ 64 → number_of (45 ∷ decimal n) ≡ neg_ℤ (pos n) }
+    ensures value { (n : ℕ) → n < 2 ^ 64 → value_of_number (decimal n) ≡ pos n }
+    ensures minus_value { (n : ℕ) → n < 2 ^ 64 → value_of_number (45 ∷ decimal n) ≡ neg_ℤ (pos n) }
 {}

@@ -1,8 +1,8 @@
 // The lexer: the longest lexeme at each place of a text.
 ghost use Rattle.std.specs.Prelude.{◌≡◌, ◌≤◌, All, IfErr, IfOk, List, MatchBool, MatchOption, MatchResult, false, length, take, true, vec_len};
 ghost use Rattle.program_lexemes.specs.Forms.{word_kind};
-ghost use Rattle.program_lexemes.specs.Lexemes.{AreLexemes, IsBad, IsFaultOf, IsIn, IsLongest, NoLexeme};
-ghost use Rattle.program_lexemes.specs.Prefixes.{IsLongestFront, NoFront};
+ghost use Rattle.program_lexemes.specs.Lexemes.{AreLexemes, IsBad, IsLexFault, IsIn, IsLongest, NoLexeme};
+ghost use Rattle.program_lexemes.specs.Prefixes.{IsLongestPrefix, NoPrefix};
 ghost use Rattle.program_lexemes.specs.Spellings.{is_symbol};
 ghost use Rattle.program_lexemes.specs.declared.lexer.LexFault as LexFault;
 ghost use Rattle.program_lexemes.specs.declared.lexer.Lexeme.{Lexeme};
@@ -63,7 +63,7 @@ fn begins_with_symbol(bytes: &[u8], size: usize) -> bool
 
 /// How many bytes the longest symbol at the front has.
 fn longest_symbol(bytes: &[u8]) -> Option<usize>
-    ensures { MatchOption result (NoFront is_symbol bytes.now) (IsLongestFront is_symbol bytes.now) }
+    ensures { MatchOption result (NoPrefix is_symbol bytes.now) (IsLongestPrefix is_symbol bytes.now) }
 {
     if begins_with_symbol(bytes, 2) {
         Some(2)
@@ -151,7 +151,7 @@ pub fn lexemes(alloc: Global, form: TextForm, text: &[u8]) -> Result<Vec<Lexeme>
     ensures each { IfOk result (λ ls. All (IsIn form text.now) ls.items) }
     ensures few { IfOk result (λ ls. vec_len ls ≤ length text.now) }
     // A refusal is at the first bad byte.
-    ensures fault { IfErr result (IsFaultOf form text.now) }
+    ensures fault { IfErr result (IsLexFault form text.now) }
     // A text that has lexemes is read as these, and it has no others.
     ensures only { (ls : List Lexeme) → AreLexemes form text.now ls
         → MatchResult result (λ found. found.items ≡ ls) (λ fault. fault ≡ LexFault.Memory) }

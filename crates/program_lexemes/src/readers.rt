@@ -2,8 +2,8 @@
 ghost use Rattle.std.specs.Prelude.{◌≡◌, ◌≤◌, ◌<◌, ◌^◌, length, nat_abs, true, false};
 ghost use Rattle.std.specs.Str.Parse.{digits_value};
 ghost use Rattle.program_lexemes.specs.Forms.{are_digits};
-ghost use Rattle.program_lexemes.specs.Lexemes.{bytes_of};
-ghost use Rattle.program_lexemes.specs.Numbers.{digits_of, is_long, is_number, number_of};
+ghost use Rattle.program_lexemes.specs.Lexemes.{bytes_of_lexeme};
+ghost use Rattle.program_lexemes.specs.Numbers.{digits_of, is_long, is_number, value_of_number};
 ghost use Rattle.program_lexemes.specs.declared.lexer.LexKind.TheVariants.{Number};
 
 use crate::lexer::{LexKind, Lexeme};
@@ -18,7 +18,7 @@ const MAX_DIGITS: usize = 9;
 pub fn lexeme_bytes<'a>(text: &'a [u8], lexeme: &Lexeme) -> &'a [u8]
     requires ordered { lexeme.now.start ≤ lexeme.now.end }
     requires within { lexeme.now.end ≤ length text.now }
-    ensures { result.now ≡ bytes_of text.now lexeme.now }
+    ensures { result.now ≡ bytes_of_lexeme text.now lexeme.now }
 {
     &text[lexeme.start as usize..lexeme.end as usize]
 }
@@ -63,7 +63,7 @@ fn digits_value(digits: &[u8]) -> u32
 pub fn number_value(bytes: &[u8]) -> i64
     requires number { is_number bytes.now ≡ true }
     requires short { is_long Number bytes.now ≡ false }
-    ensures value { result ≡ number_of bytes.now }
+    ensures value { result ≡ value_of_number bytes.now }
     ensures bound { nat_abs result < 10 ^ 9 }
 {
     let value = i64::from(digits_value(digits_of(bytes)));

@@ -16,8 +16,8 @@ use Rattle.program_lexemes.specs.declared.lexer.LexKind.{LexKind}
 use Rattle.program_lexemes.specs.declared.lexer.LexKind.TheVariants as kind
 use Rattle.program_lexemes.specs.declared.bytes.TextForm.{TextForm}
 use Rattle.program_lexemes.specs.Forms.{kind_of, is_minus, are_digits}
-use Rattle.program_lexemes.specs.Lexemes.{Reads, bytes_of}
-use Rattle.program_lexemes.specs.Numbers.{is_number, number_of, digits_of, is_long}
+use Rattle.program_lexemes.specs.Lexemes.{Reads, bytes_of_lexeme}
+use Rattle.program_lexemes.specs.Numbers.{is_number, value_of_number, digits_of, is_long}
 use Rattle.program_lexemes.proofs.Decimals.{digits_all}
 use Rattle.program_lexemes.proofs.KindSays.{kind_number}
 use Rattle.program_lexemes.proofs.Reading.{lexeme_in}
@@ -49,7 +49,7 @@ small_negative (suc v) h = let k : suc v < 1000000000 = h in let g : IsTrue (is_
 digits_small : (ds : List ℕ) → are_digits ds ≡ true → nat_lt 9 (length ds) ≡ false → digits_value 10 ds < 10 ^ 9
 digits_small ds e h = digits_value_short (numerals_by_value (AllDigits 10) tells_digits) ds 9 (digits_all ds e) (ltb-false 9 (length ds) h)
 
-number_small : (bytes : List ℕ) → is_number bytes ≡ true → nat_lt 9 (length (digits_of bytes)) ≡ false → is_bound (number_of bytes) ≡ true
+number_small : (bytes : List ℕ) → is_number bytes ≡ true → nat_lt 9 (length (digits_of bytes)) ≡ false → is_bound (value_of_number bytes) ≡ true
 number_small [] e h = cc
 number_small (b ∷ bs) e h = go (is_minus b) e h
   where
@@ -109,7 +109,7 @@ read_fit : (form : TextForm) (text : List ℕ) (ls : List Lexeme) (i j n : ℕ) 
 read_fit form text [] i j n r short = tt
 read_fit form text (l ∷ ls) i j n (w, is, r) short =
     let (here, behind) = kept (too_long text l) n (position_from (too_long text) (n + 1) ls) short in
-    (said_fit form l.kind (bytes_of text l) (lexeme_in form text l is).is here, read_fit form text ls l.end j (n + 1) r behind)
+    (said_fit form l.kind (bytes_of_lexeme text l) (lexeme_in form text l is).is here, read_fit form text ls l.end j (n + 1) r behind)
 
 -- The terms of an accepted text are fit.
 pub terms_fit : (dialect : Dialect) (text : List ℕ) (ts : List Term) → HasTerms dialect text ts → AreFit (text_form dialect) ts

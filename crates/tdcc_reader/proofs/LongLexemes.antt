@@ -6,7 +6,7 @@ use Rattle.std.proofs.lemmas.Option.{slice_get-get_or}
 use Rattle.program_lexemes.specs.declared.lexer.Lexeme.{Lexeme}
 use Rattle.program_lexemes.specs.declared.lexer.LexKind.{LexKind}
 use Rattle.program_lexemes.specs.declared.lexer.LexKind.TheVariants as kind
-use Rattle.program_lexemes.specs.Lexemes.{bytes_of}
+use Rattle.program_lexemes.specs.Lexemes.{bytes_of_lexeme}
 use Rattle.program_lexemes.specs.Numbers.{is_long}
 use Rattle.tdcc_reader.specs.Sayings.{too_long}
 use Rattle.tdcc_reader.specs.Refusals.{IsFirstLong}
@@ -27,9 +27,9 @@ first_long text ls place d k first is = record {
 pub first_told : (text : List ℕ) (ls : List Lexeme) (place : ℕ) (d : Lexeme) → position (too_long text) ls ≡ Some place → ((get_or ls place d).kind ≡ kind.Keyword) ⊎ ((get_or ls place d).kind ≡ kind.Symbol) → ⊥
 first_told text ls place d first is = go is
   where
-    long : is_long (get_or ls place d).kind (bytes_of text (get_or ls place d)) ≡ true
+    long : is_long (get_or ls place d).kind (bytes_of_lexeme text (get_or ls place d)) ≡ true
     long = (position-Some (too_long text) ls place d first).1
 
     go : ((get_or ls place d).kind ≡ kind.Keyword) ⊎ ((get_or ls place d).kind ≡ kind.Symbol) → ⊥
-    go (inl e) = let f : false ≡ true = ap (λ k. is_long k (bytes_of text (get_or ls place d))) (sym e) ∙ long in cc
-    go (inr e) = let f : false ≡ true = ap (λ k. is_long k (bytes_of text (get_or ls place d))) (sym e) ∙ long in cc
+    go (inl e) = let f : false ≡ true = ap (λ k. is_long k (bytes_of_lexeme text (get_or ls place d))) (sym e) ∙ long in cc
+    go (inr e) = let f : false ≡ true = ap (λ k. is_long k (bytes_of_lexeme text (get_or ls place d))) (sym e) ∙ long in cc

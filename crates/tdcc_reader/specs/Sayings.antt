@@ -8,8 +8,8 @@ use Rattle.program_lexemes.specs.declared.keywords.Keyword.TheVariants as keywor
 use Rattle.program_lexemes.specs.declared.symbols.Symbol.{Symbol}
 use Rattle.program_lexemes.specs.declared.symbols.Symbol.TheVariants as symbol
 use Rattle.program_lexemes.specs.Spellings.{keyword_bytes, symbol_bytes, keywords, symbols}
-use Rattle.program_lexemes.specs.Lexemes.{bytes_of}
-use Rattle.program_lexemes.specs.Numbers.{number_of, is_long}
+use Rattle.program_lexemes.specs.Lexemes.{bytes_of_lexeme}
+use Rattle.program_lexemes.specs.Numbers.{value_of_number, is_long}
 use Rattle.program_grammar.specs.Terms.{Term, Name, Number, Signal, Int, Set, In, Skip, If, Then, Else, New, Hence, Next, Always, When, Do, Watching, Time, On, Semicolon, Comma, Range, Ampersand, Bars, OpenBrace, CloseBrace, Bang, Hash, GreaterEqual, LessEqual, Equal, Colon}
 use Rattle.std.specs.Prelude.{ℕ}
 
@@ -62,12 +62,12 @@ symbol_with bytes = find (λ s. bytes_eq bytes (symbol_bytes s)) symbols
 abbrev pub says : LexKind → List ℕ → Term
 says kind.Name bytes = Name bytes
 says kind.Keyword bytes = unwrap_or (option_map keyword_term (keyword_with bytes)) Skip
-says kind.Number bytes = Number (number_of bytes)
+says kind.Number bytes = Number (value_of_number bytes)
 says kind.Symbol bytes = unwrap_or (option_map symbol_term (symbol_with bytes)) Skip
 
 -- the term of a lexeme of the text
 abbrev pub term_of : List ℕ → Lexeme → Term
-term_of text l = says l.kind (bytes_of text l)
+term_of text l = says l.kind (bytes_of_lexeme text l)
 
 -- the terms of lexemes of the text
 abbrev pub terms_of : List ℕ → List Lexeme → List Term
@@ -75,4 +75,4 @@ terms_of text ls = map (term_of text) ls
 
 -- the lexeme is a name of more than 32 bytes or a number of more than 9 digits
 abbrev pub too_long : List ℕ → Lexeme → Bool
-too_long text l = is_long l.kind (bytes_of text l)
+too_long text l = is_long l.kind (bytes_of_lexeme text l)

@@ -2,7 +2,7 @@
 ghost use Rattle.std.specs.Prelude.{◌≡◌, ◌<◌, ◌^◌, All, IfErr, IfOk, MatchResult, None, Some, false, get_or, length, map, position};
 ghost use Rattle.program_grammar.specs.Terms.{Skip, class_of, classes};
 ghost use Rattle.program_lexemes.specs.Forms.{kind_of};
-ghost use Rattle.program_lexemes.specs.Lexemes.{IsIn, bytes_of};
+ghost use Rattle.program_lexemes.specs.Lexemes.{IsIn, bytes_of_lexeme};
 ghost use Rattle.program_lexemes.specs.Numbers.{is_long};
 ghost use Rattle.program_lexemes.specs.declared.bytes.TextForm.{TextForm};
 ghost use Rattle.tdcc_reader.specs.Sayings.{keyword_term, says, symbol_term, terms_of, too_long};

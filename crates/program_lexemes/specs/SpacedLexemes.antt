@@ -9,18 +9,18 @@ use Rattle.program_lexemes.specs.Spellings.{is_symbol}
 use Rattle.program_lexemes.specs.Forms.{is_digit, is_word_byte, is_white, kind_of}
 
 -- a lexeme's bytes, and the white space behind it
-pub record Piece : Type 0 where
+pub record SpacedLexeme : Type 0 where
   pub bytes : List ℕ
   pub kind : LexKind
   pub space : List ℕ
 
 -- the text of some pieces
-abbrev pub joined : List Piece → List ℕ
-joined [] = []
-joined (p ∷ ps) = p.bytes ++ (p.space ++ joined ps)
+abbrev pub spaced_text : List SpacedLexeme → List ℕ
+spaced_text [] = []
+spaced_text (p ∷ ps) = p.bytes ++ (p.space ++ spaced_text ps)
 
 -- where the lexemes stand, if the pieces begin at this place
-abbrev pub spans : ℕ → List Piece → List Lexeme
+abbrev pub spans : ℕ → List SpacedLexeme → List Lexeme
 spans at [] = []
 spans at (p ∷ ps) = record { kind = p.kind; start = at; end = at + length p.bytes } ∷ spans (at + length p.bytes + length p.space) ps
 
@@ -37,12 +37,12 @@ stops test [] = Unit {0}
 stops test (b ∷ bs) = test b ≡ false
 
 -- the piece is a lexeme with white space behind it, and the lexeme does not go on with what follows it
-pub record IsCut (form : TextForm) (p : Piece) (rest : List ℕ) : Type 0 where
+pub record IsCut (form : TextForm) (p : SpacedLexeme) (rest : List ℕ) : Type 0 where
   pub is : kind_of form p.bytes ≡ Some p.kind
   pub white : list_all is_white p.space ≡ true
   pub cut : stops (goes_on p.kind p.bytes) (p.space ++ rest)
 
 -- each piece is cut from what follows it
-abbrev pub AreCut : TextForm → List Piece → Type 0
+abbrev pub AreCut : TextForm → List SpacedLexeme → Type 0
 AreCut form [] = Unit {0}
-AreCut form (p ∷ ps) = IsCut form p (joined ps) × AreCut form ps
+AreCut form (p ∷ ps) = IsCut form p (spaced_text ps) × AreCut form ps
