@@ -10,7 +10,7 @@ use Rattle.agent_core.specs.Listing as core
 use Rattle.agent_core.specs.Facts.{IsProgram, Scoped, cell_of, count_up}
 use Rattle.agent_core.proofs.ListingTrees.{root_tree}
 use Rattle.tdcc_reader.specs.declared.dialect.Dialect.TheVariants as dialect
-use Rattle.tdcc_reader.specs.Trees.{Tree, Skip, Tell, Then, Else, Par, New, Hence, Next, Always, When, Watch, Time, size, listing}
+use Rattle.tdcc_reader.specs.Trees.{Tree, Skip, Tell, Then, Else, Par, New, Hence, Next, Always, When, Watch, Time, form_count, form_listing}
 use Rattle.tdcc_reader.specs.Surfaces.{SurfaceProgram, IsSurfaceOf, cell_view, program_tree, program_cells}
 use Rattle.tdcc_reader.specs.Refusals.{Accepts}
 use Rattle.surface_laws.specs.Surfaces.{new_cells}
@@ -28,12 +28,12 @@ use Rattle.core_reader.proofs.LocalCells.{news_listed, news_tree}
 use Rattle.core_reader.proofs.ScopedAgents.{agent_scoped}
 use Rattle.program_lexemes.specs.declared.bytes.TextForm.TheVariants as form
 
-pub length-listing : (n : ℕ) (t : Tree) → length (listing n t) ≡ size t
+pub length-listing : (n : ℕ) (t : Tree) → length (form_listing n t) ≡ form_count t
 length-listing n Skip = refl
 length-listing n (Tell c) = refl
 length-listing n (Then c a) = ap suc (length-listing (suc n) a)
 length-listing n (Else c a) = ap suc (length-listing (suc n) a)
-length-listing n (Par l r) = ap suc (length-append (listing (suc n) l) (listing (suc n + size l) r) ∙ ap (λ k. k + length (listing (suc n + size l) r)) (length-listing (suc n) l) ∙ ap (λ k. size l + k) (length-listing (suc n + size l) r))
+length-listing n (Par l r) = ap suc (length-append (form_listing (suc n) l) (form_listing (suc n + form_count l) r) ∙ ap (λ k. k + length (form_listing (suc n + form_count l) r)) (length-listing (suc n) l) ∙ ap (λ k. form_count l + k) (length-listing (suc n + form_count l) r))
 length-listing n (New cell a) = ap suc (length-listing (suc n) a)
 length-listing n (Hence a) = ap suc (length-listing (suc n) a)
 length-listing n (Next a) = ap suc (length-listing (suc n) a)
@@ -43,7 +43,7 @@ length-listing n (Watch a c) = ap suc (length-listing (suc n) a)
 length-listing n (Time a c) = ap suc (length-listing (suc n) a)
 
 -- A surface has as many forms and cells as its phrase.
-pub forms_many : (phrase : Phrase) (s : SurfaceProgram) → IsSurfaceOf phrase s → length s.forms ≡ size (program_tree phrase)
+pub forms_many : (phrase : Phrase) (s : SurfaceProgram) → IsSurfaceOf phrase s → length s.forms ≡ form_count (program_tree phrase)
 forms_many phrase s is = ap length is.forms ∙ length-listing 0 (program_tree phrase)
 
 pub cells_many : (phrase : Phrase) (s : SurfaceProgram) → IsSurfaceOf phrase s → length s.cells ≡ length (program_cells phrase)
@@ -55,7 +55,7 @@ core_tree text phrase a = program_core phrase a.is.spells.allowed
 
 -- the forms of an accepted core text are those of an agent's nodes
 forms_of : (text : List ℕ) (phrase : Phrase) (s : SurfaceProgram) → Accepts dialect.Core text phrase → IsSurfaceOf phrase s → s.forms ≡ map form_of (core.listing 0 (agent_of (program_tree phrase)))
-forms_of text phrase s a is = is.forms ∙ ap (listing 0) (sym (core_tree text phrase a)) ∙ sym (forms_listed 0 (agent_of (program_tree phrase)))
+forms_of text phrase s a is = is.forms ∙ ap (form_listing 0) (sym (core_tree text phrase a)) ∙ sym (forms_listed 0 (agent_of (program_tree phrase)))
 
 -- They are forms of the core.
 pub surface_core : (text : List ℕ) (phrase : Phrase) (s : SurfaceProgram) → Accepts dialect.Core text phrase → IsSurfaceOf phrase s → All IsCoreForm s.forms
@@ -74,14 +74,14 @@ made_core text phrase s nodes a is e = record {
 
 -- the surface of a core program
 abbrev surface : CoreProgram → Phrase → SurfaceProgram
-surface p phrase = record { cells = p.cells; declared = p.declared; forms = listing 0 (program_tree phrase) }
+surface p phrase = record { cells = p.cells; declared = p.declared; forms = form_listing 0 (program_tree phrase) }
 
--- The core program of an accepted core text that keeps the limits on its size is a program.
+-- The core program of an accepted core text that keeps the limits on its form_count is a program.
 pub core_is_program : (text : List ℕ) (phrase : Phrase) (p : CoreProgram) → AcceptsCore text phrase → IsCoreOf phrase p → IsProgram p
 core_is_program text phrase p a is =
     let many : length p.cells ≡ p.declared + length (local_cells phrase) = local_many phrase (surface p phrase) (record { cells = is.cells; declared = is.declared; forms = refl }) in
     let local : length (local_cells phrase) ≡ length p.cells - p.declared = omega arith in
-    let listed : length p.nodes ≡ size (program_tree phrase) = ap length is.nodes ∙ sym (length-map (core.listing 0 is.agent) form_of) ∙ ap length (forms_listed 0 is.agent) ∙ length-listing 0 (tree_of is.agent) ∙ ap size is.tree in
+    let listed : length p.nodes ≡ form_count (program_tree phrase) = ap length is.nodes ∙ sym (length-map (core.listing 0 is.agent) form_of) ∙ ap length (forms_listed 0 is.agent) ∙ length-listing 0 (tree_of is.agent) ∙ ap form_count is.tree in
     let seen : length p.cells ≡ length (program_cells phrase) = sym (length-map p.cells cell_view) ∙ ap length is.cells in
     let nodes = a.few_nodes in
     let cells = a.few_cells in
@@ -101,7 +101,7 @@ one_core phrase p q a b =
     let cells : p.cells ≡ q.cells = same_cells p.cells q.cells (a.cells ∙ sym b.cells) in
     let declared : p.declared ≡ q.declared = a.declared ∙ sym b.declared in
     let listed : core.listing 0 a.agent ≡ core.listing 0 b.agent =
-    same_nodes (core.listing 0 a.agent) (core.listing 0 b.agent) (forms_listed 0 a.agent ∙ ap (listing 0) (a.tree ∙ sym b.tree) ∙ sym (forms_listed 0 b.agent)) in
+    same_nodes (core.listing 0 a.agent) (core.listing 0 b.agent) (forms_listed 0 a.agent ∙ ap (form_listing 0) (a.tree ∙ sym b.tree) ∙ sym (forms_listed 0 b.agent)) in
     let nodes : p.nodes ≡ q.nodes = a.nodes ∙ listed ∙ sym b.nodes in
     ap (λ (z : List CellDecl). record { cells = z; declared = p.declared; nodes = p.nodes }) cells
     ∙ ap (λ (z : ℕ). record { cells = q.cells; declared = z; nodes = p.nodes }) declared

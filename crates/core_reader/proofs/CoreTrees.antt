@@ -7,7 +7,7 @@ use Rattle.program_grammar.specs.Programs.{is_core_unit, is_core_agent, is_core}
 use Rattle.agent_core.specs.Agents as core
 use Rattle.tdcc_reader.specs.Trees.{Tree}
 use Rattle.tdcc_reader.specs.Trees as tree
-use Rattle.tdcc_reader.specs.Surfaces.{Placed, placed, ask_of, unit_tree, agent_tree, unit_cells, names_cells, names_scope, items_cells, items_scope, tree_from, program_tree}
+use Rattle.tdcc_reader.specs.Surfaces.{Placed, placed, constraint_of, unit_tree, agent_tree, unit_cells, names_cells, names_scope, items_cells, items_scope, tree_from, program_tree}
 use Rattle.core_reader.specs.Trees.{tree_of}
 
 -- the agent of a tree of core forms
@@ -30,8 +30,8 @@ mutual
   unit_core phrases.Skip s n e = refl
   unit_core (Tell c) s n e = refl
   unit_core (Braces a) s n e = agent_core a s n e
-  unit_core (IfThen c u) s n e = ap (tree.Then (ask_of s c)) (unit_core u s n e)
-  unit_core (IfElse c u) s n e = ap (tree.Else (ask_of s c)) (unit_core u s n e)
+  unit_core (IfThen c u) s n e = ap (tree.Then (constraint_of s c)) (unit_core u s n e)
+  unit_core (IfElse c u) s n e = ap (tree.Else (constraint_of s c)) (unit_core u s n e)
   unit_core (LocalSignal x u) s n e = ap (tree.New n) (unit_core u (placed x n ∷ s) (n + 1) e)
   unit_core (LocalInt x l h u) s n e = ap (tree.New n) (unit_core u (placed x n ∷ s) (n + 1) e)
   unit_core (phrases.Hence u) s n e = ap tree.Hence (unit_core u s n e)

@@ -8,7 +8,7 @@ use Rattle.agent_core.specs.Programs.{CoreProgram}
 use Rattle.tdcc_reader.specs.declared.dialect.Dialect.TheVariants as dialect
 use Rattle.tdcc_reader.specs.declared.fault.ReadFault.{ReadFault}
 use Rattle.tdcc_reader.specs.declared.fault.ReadFault.TheVariants.{TextTooLong, Lex, LongName, LongNumber, Later, Syntax, TooDeep, TooManyTokens, DoubleName, EmptyDomain, UnknownName, WrongKind, TooManyDeclared, TooManyNodes, TooManyCells, Memory}
-use Rattle.tdcc_reader.specs.Trees.{size}
+use Rattle.tdcc_reader.specs.Trees.{form_count}
 use Rattle.tdcc_reader.specs.Surfaces.{program_tree, program_cells}
 use Rattle.tdcc_reader.specs.Refusals.{Accepts, Refuses}
 use Rattle.tdcc_reader.proofs.OneRefusal.{one_accepted, one_refusal, accepted_not_refused}
@@ -39,7 +39,7 @@ abbrev size_refusal : ℕ → ℕ → Option ReadFault
 size_refusal nodes cells = if nat_lt 4096 nodes then Some TooManyNodes else (if nat_lt 1024 cells then Some TooManyCells else None)
 
 abbrev phrase_refusal : Phrase → Option ReadFault
-phrase_refusal phrase = size_refusal (size (program_tree phrase)) (length (program_cells phrase))
+phrase_refusal phrase = size_refusal (form_count (program_tree phrase)) (length (program_cells phrase))
 
 many_nodes : (n m : ℕ) → 4096 < n → Some TooManyNodes ≡ size_refusal n m
 many_nodes n m h = sym (ap (λ b. if b then Some TooManyNodes else (if nat_lt 1024 m then Some TooManyCells else None)) (lt-ltb 4096 n h))
@@ -65,8 +65,8 @@ one_verdict text v w (a_phrase phrase is e) (no_phrase f m a e') = absurd (accep
 one_verdict text v w (a_phrase p a e) (a_phrase q b e') = e ∙ ap phrase_refusal (one_accepted dialect.Core text p q a b) ∙ sym e'
 
 refused : (text : List ℕ) (f : ReadFault) → f ≢ Memory → RefusesCore text f → Verdict text (Some f)
-refused text TooManyNodes m (phrase, a, h) = a_phrase phrase a (many_nodes (size (program_tree phrase)) (length (program_cells phrase)) h)
-refused text TooManyCells m (phrase, a, h, k) = a_phrase phrase a (many_cells (size (program_tree phrase)) (length (program_cells phrase)) h k)
+refused text TooManyNodes m (phrase, a, h) = a_phrase phrase a (many_nodes (form_count (program_tree phrase)) (length (program_cells phrase)) h)
+refused text TooManyCells m (phrase, a, h, k) = a_phrase phrase a (many_cells (form_count (program_tree phrase)) (length (program_cells phrase)) h k)
 refused text TextTooLong m r = no_phrase TextTooLong m r refl
 refused text (Lex n) m r = no_phrase (Lex n) m r refl
 refused text (LongName n) m r = no_phrase (LongName n) m r refl
@@ -83,7 +83,7 @@ refused text TooManyDeclared m r = no_phrase TooManyDeclared m r refl
 refused text Memory m r = absurd (m refl)
 
 accepted : (text : List ℕ) (phrase : Phrase) → AcceptsCore text phrase → Verdict text None
-accepted text phrase a = a_phrase phrase a.accepts (few_cells (size (program_tree phrase)) (length (program_cells phrase)) a.few_nodes a.few_cells)
+accepted text phrase a = a_phrase phrase a.accepts (few_cells (form_count (program_tree phrase)) (length (program_cells phrase)) a.few_nodes a.few_cells)
 
 -- A text has one refusal at most.
 pub one_core_refusal : (text : List ℕ) (f g : ReadFault) → f ≢ Memory → g ≢ Memory → RefusesCore text f → RefusesCore text g → f ≡ g

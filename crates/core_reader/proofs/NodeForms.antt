@@ -12,18 +12,18 @@ use Rattle.tdcc_reader.specs.Trees as tree
 use Rattle.core_reader.specs.Trees.{tree_of}
 use Rattle.core_reader.specs.Forms.{form_of, IsCoreForm}
 
-pub same_size : (a : Agent) → tree.size (tree_of a) ≡ size a
+pub same_size : (a : Agent) → tree.form_count (tree_of a) ≡ size a
 same_size Skip = refl
 same_size (Tell c) = refl
 same_size (Then c a) = ap suc (same_size a)
 same_size (Else c a) = ap suc (same_size a)
-same_size (Par l r) = ap (λ n. suc (n + tree.size (tree_of r))) (same_size l) ∙ ap (λ n. suc (size l + n)) (same_size r)
+same_size (Par l r) = ap (λ n. suc (n + tree.form_count (tree_of r))) (same_size l) ∙ ap (λ n. suc (size l + n)) (same_size r)
 same_size (New cell a) = ap suc (same_size a)
 same_size (Hence a) = ap suc (same_size a)
 same_size (Next a) = ap suc (same_size a)
 
 -- The forms of an agent's nodes are the forms of its tree.
-pub forms_listed : (n : ℕ) (a : Agent) → map form_of (listing n a) ≡ tree.listing n (tree_of a)
+pub forms_listed : (n : ℕ) (a : Agent) → map form_of (listing n a) ≡ tree.form_listing n (tree_of a)
 forms_listed n Skip = refl
 forms_listed n (Tell c) = refl
 forms_listed n (Then c a) = ap (λ l. form.Then c (suc n) ∷ l) (forms_listed (suc n) a)
@@ -31,8 +31,8 @@ forms_listed n (Else c a) = ap (λ l. form.Else c (suc n) ∷ l) (forms_listed (
 forms_listed n (Par l r) =
     ap (λ q. form.Par (suc n) (suc n + size l) ∷ q) (map-append form_of (listing (suc n) l) (listing (suc n + size l) r)
     ∙ ap (λ q. q ++ map form_of (listing (suc n + size l) r)) (forms_listed (suc n) l)
-    ∙ ap (λ q. tree.listing (suc n) (tree_of l) ++ q) (forms_listed (suc n + size l) r))
-    ∙ ap (λ k. form.Par (suc n) (suc n + k) ∷ (tree.listing (suc n) (tree_of l) ++ tree.listing (suc n + k) (tree_of r))) (sym (same_size l))
+    ∙ ap (λ q. tree.form_listing (suc n) (tree_of l) ++ q) (forms_listed (suc n + size l) r))
+    ∙ ap (λ k. form.Par (suc n) (suc n + k) ∷ (tree.form_listing (suc n) (tree_of l) ++ tree.form_listing (suc n + k) (tree_of r))) (sym (same_size l))
 forms_listed n (New cell a) = ap (λ l. form.New cell (suc n) ∷ l) (forms_listed (suc n) a)
 forms_listed n (Hence a) = ap (λ l. form.Hence (suc n) ∷ l) (forms_listed (suc n) a)
 forms_listed n (Next a) = ap (λ l. form.Next (suc n) ∷ l) (forms_listed (suc n) a)

@@ -7,7 +7,7 @@ use Rattle.agent_core.specs.Listing.{listing}
 use Rattle.tdcc_reader.specs.declared.dialect.Dialect.TheVariants as dialect
 use Rattle.tdcc_reader.specs.declared.fault.ReadFault.{ReadFault}
 use Rattle.tdcc_reader.specs.declared.fault.ReadFault.TheVariants.{TooManyNodes, TooManyCells}
-use Rattle.tdcc_reader.specs.Trees.{size}
+use Rattle.tdcc_reader.specs.Trees.{form_count}
 use Rattle.tdcc_reader.specs.Surfaces.{cell_view, program_tree, program_cells, declared_cells}
 use Rattle.tdcc_reader.specs.Refusals.{Accepts, Refuses}
 use Rattle.core_reader.specs.Trees.{tree_of}
@@ -23,7 +23,7 @@ pub record IsCoreOf (phrase : Phrase) (p : CoreProgram) : Type 0 where
 -- the core text is this phrase, nothing refuses it, and it has at most 4,096 forms and 1,024 cells
 pub record AcceptsCore (text : List ℕ) (phrase : Phrase) : Type 0 where
   pub accepts : Accepts dialect.Core text phrase
-  pub few_nodes : size (program_tree phrase) ≤ 4096
+  pub few_nodes : form_count (program_tree phrase) ≤ 4096
   pub few_cells : length (program_cells phrase) ≤ 1024
 
 -- the text is this core program
@@ -32,8 +32,8 @@ IsCoreText text p = (phrase : Phrase) × AcceptsCore text phrase × IsCoreOf phr
 
 -- the text is refused as a core text; or it is accepted, and has too many forms, or else too many cells
 abbrev pub RefusesCore : List ℕ → ReadFault → Type 0
-RefusesCore text TooManyNodes = (phrase : Phrase) × Accepts dialect.Core text phrase × (4096 < size (program_tree phrase))
-RefusesCore text TooManyCells = (phrase : Phrase) × Accepts dialect.Core text phrase × (size (program_tree phrase) ≤ 4096) × (1024 < length (program_cells phrase))
+RefusesCore text TooManyNodes = (phrase : Phrase) × Accepts dialect.Core text phrase × (4096 < form_count (program_tree phrase))
+RefusesCore text TooManyCells = (phrase : Phrase) × Accepts dialect.Core text phrase × (form_count (program_tree phrase) ≤ 4096) × (1024 < length (program_cells phrase))
 RefusesCore text fault = Refuses dialect.Core text fault
 
 -- what `read_core` may answer of the text: the core program that it is, or its refusal, where want of memory says nothing

@@ -14,17 +14,17 @@ use Rattle.agent_core.specs.declared.node.CellDecl.{CellDecl}
 use Rattle.agent_core.specs.Agents.{Agent, Skip, Tell, Then, Else, Par, New, Hence, Next, agent_at}
 use Rattle.agent_core.specs.Programs.{CoreProgram}
 use Rattle.agent_core.specs.Facts.{IsProgram, count_up}
-use Rattle.tdcc_reader.specs.Surfaces.{Declared, declared, signal, number, cell_view, unit_cells, agent_cells, declared_cells, program_cells}
+use Rattle.tdcc_reader.specs.Surfaces.{Declared, declared, declared_signal, declared_number, cell_view, unit_cells, agent_cells, declared_cells, program_cells}
 use Rattle.core_text.specs.GoodNames.{HasGoodNames}
 use Rattle.core_reader.proofs.LocalCells.{news}
 use Rattle.core_text_laws.proofs.Sitting.{Sits, sits_then, sits_else, sits_hence, sits_next, sits_left, sits_right, sits_cell, sits_new, root_sits, root_news}
 use Rattle.core_text_laws.proofs.CorePhrases.{as_unit_phrase, local_phrase, local_at, agent_phrase, decl_phrase, decls_phrase, program_phrase}
 
--- what is seen of the cell with this number
+-- what is seen of the cell with this declared_number
 abbrev pub seen_at : List CellDecl → ℕ → Declared
-seen_at cells n = option_map_or cell_view (slice_get cells n) (signal [])
+seen_at cells n = option_map_or cell_view (slice_get cells n) (declared_signal [])
 
--- a cell with this number stands in the list
+-- a cell with this declared_number stands in the list
 pub found_at : (cells : List CellDecl) (n : ℕ) → n < length cells → (d : CellDecl) × (slice_get cells n ≡ Some d)
 found_at [] n h = absurd (omega arith)
 found_at (d ∷ cells) zero h = (d, refl)
@@ -47,13 +47,13 @@ int_same : (a b : ℤ) → IsTrue (int_eq a b) → a ≡ b
 int_same a b h = (Decides-int_eq a b).0 h
 
 -- what is seen of a lawful cell, by its kind
-signal_seen : (x : List ℕ) (l h : ℤ) → IsTrue (is_cell Signal l h) → declared x Signal l h ≡ signal x
+signal_seen : (x : List ℕ) (l h : ℤ) → IsTrue (is_cell Signal l h) → declared x Signal l h ≡ declared_signal x
 signal_seen x l h law =
     let (a, b) = both (int_eq l (pos 0)) (int_eq h (pos 0)) law in
     ap (λ (i : ℤ). declared x Signal i h) (int_same l (pos 0) a) ∙ ap (λ (i : ℤ). declared x Signal (pos 0) i) (int_same h (pos 0) b)
 
-number_seen : (x : List ℕ) (l h : ℤ) → IsTrue (is_cell Number l h) → declared x Number l h ≡ number x l h
-number_seen x l h law = ap (λ (b : Bool). cond b (declared x Number l h) (signal x)) (sym law)
+number_seen : (x : List ℕ) (l h : ℤ) → IsTrue (is_cell Number l h) → declared x Number l h ≡ declared_number x l h
+number_seen x l h law = ap (λ (b : Bool). cond b (declared x Number l h) (declared_signal x)) (sym law)
 
 local_cells : (x : List ℕ) (k : Kind) (l h : ℤ) (law : IsTrue (is_cell k l h)) (u : g.UnitPhrase)
     → unit_cells (local_phrase k (record { name = x; cell = record { kind = k; lo = l; hi = h; lawful = law } }) u) ≡ declared x k l h ∷ unit_cells u
@@ -84,7 +84,7 @@ module _ (p : CoreProgram) where
       ap (λ (o : Option CellDecl). unit_cells (local_at o (as_unit_phrase (agent_phrase p.cells a)))) found
       ∙ local_cells d.name d.cell.kind d.cell.lo d.cell.hi d.cell.lawful (as_unit_phrase (agent_phrase p.cells a))
       ∙ ap (λ (q : List Declared). cell_view d ∷ q) (unit_cells-as_unit (agent_phrase p.cells a) ∙ cells_kept a (cell ∷ locals) (n + 1) (sits_new p locals n cell a s))
-      ∙ ap (λ (o : Option CellDecl). option_map_or cell_view o (signal []) ∷ map (seen_at p.cells) (news a)) (sym found)
+      ∙ ap (λ (o : Option CellDecl). option_map_or cell_view o (declared_signal []) ∷ map (seen_at p.cells) (news a)) (sym found)
 
   pub cells_many : (a : Agent) (locals : List ℕ) (n : ℕ) → Sits p locals n a → length (unit_cells (as_unit_phrase (agent_phrase p.cells a))) ≡ length (news a)
   cells_many a locals n s = ap length (unit_cells-as_unit (agent_phrase p.cells a) ∙ cells_kept a locals n s) ∙ length-map (news a) (seen_at p.cells)
@@ -110,7 +110,7 @@ numbered cells zero n e = ap (map cell_view) (sym (drop_all n cells (omega arith
 numbered cells (suc k) n e =
     let (d, found) = found_at cells n (omega arith) in
     let here : d ≡ get_or cells n d = let f = slice_get-get_or cells n d (omega arith) in let g : Some d ≡ Some (get_or cells n d) = sym found ∙ f in cc in
-    ap (λ (o : Option CellDecl). option_map_or cell_view o (signal []) ∷ map (seen_at cells) (count_up (suc n) k)) found
+    ap (λ (o : Option CellDecl). option_map_or cell_view o (declared_signal []) ∷ map (seen_at cells) (count_up (suc n) k)) found
     ∙ ap (λ (q : List Declared). cell_view d ∷ q) (numbered cells k (suc n) (omega arith))
     ∙ ap (map cell_view) (ap (λ (x : CellDecl). x ∷ drop (suc n) cells) here ∙ sym (drop-cons cells n d (omega arith)))
 

@@ -18,7 +18,7 @@ use Rattle.agent_core.specs.Programs.{CoreProgram}
 use Rattle.agent_core.specs.Facts.{IsProgram, IsInScope, AreInScope}
 use Rattle.tdcc_reader.specs.Limits.{first}
 use Rattle.tdcc_reader.specs.Widths.{token_width, constraint_width, unit_width}
-use Rattle.tdcc_reader.specs.Scope.{Known, known, kind_of, unknown_fault, signal_fault, number_fault, double_fault, domain_fault, declared_fault, token_fault, constraint_fault, unit_fault, agent_fault, fault_from, program_fault}
+use Rattle.tdcc_reader.specs.Scope.{Known, known, kind_in_scope, unknown_fault, signal_fault, number_fault, double_fault, domain_fault, declared_fault, token_fault, constraint_fault, unit_fault, agent_fault, fault_from, program_fault}
 use Rattle.core_text.specs.CoreTexts.{name_at}
 use Rattle.core_text.specs.GoodNames.{IsVisible, HasGoodNames}
 use Rattle.core_reader.proofs.LocalCells.{news}
@@ -44,20 +44,20 @@ domain_clean l h at law =
 
 -- KNOWN NAMES
 
-kind_first : (x y : List ℕ) (k : Kind) (scope : List Known) → x ≡ y → kind_of (known x k ∷ scope) y ≡ Some k
-kind_first x y k scope e = ap (λ (b : Bool). if b then Some k else kind_of scope y) ((bytes_eq-Decides x y).1 e)
+kind_first : (x y : List ℕ) (k : Kind) (scope : List Known) → x ≡ y → kind_in_scope (known x k ∷ scope) y ≡ Some k
+kind_first x y k scope e = ap (λ (b : Bool). if b then Some k else kind_in_scope scope y) ((bytes_eq-Decides x y).1 e)
 
-kind_under : (x y : List ℕ) (k : Kind) (scope : List Known) → (x ≡ y → ⊥) → kind_of (known x k ∷ scope) y ≡ kind_of scope y
+kind_under : (x y : List ℕ) (k : Kind) (scope : List Known) → (x ≡ y → ⊥) → kind_in_scope (known x k ∷ scope) y ≡ kind_in_scope scope y
 kind_under x y k scope differ = go (bytes_eq x y) (bytes_eq-Decides x y).0
   where
-    go : (b : Bool) → (b ≡ true → x ≡ y) → (if b then Some k else kind_of scope y) ≡ kind_of scope y
+    go : (b : Bool) → (b ≡ true → x ≡ y) → (if b then Some k else kind_in_scope scope y) ≡ kind_in_scope scope y
     go true h = absurd (differ (h refl))
     go false h = refl
 
 -- the names of these cells are known with their kinds, and no others
 pub record KnownFits (cells : List CellDecl) (V : ℕ → Type 0) (scope : List Known) : Type 0 where
-  pub each : (c : ℕ) (d : CellDecl) → V c → slice_get cells c ≡ Some d → kind_of scope d.name ≡ Some d.cell.kind
-  pub others : (x : List ℕ) → ((c : ℕ) → V c → name_at cells c ≡ x → ⊥) → kind_of scope x ≡ None
+  pub each : (c : ℕ) (d : CellDecl) → V c → slice_get cells c ≡ Some d → kind_in_scope scope d.name ≡ Some d.cell.kind
+  pub others : (x : List ℕ) → ((c : ℕ) → V c → name_at cells c ≡ x → ⊥) → kind_in_scope scope x ≡ None
 
 -- the same cells
 known_same : (cells : List CellDecl) (V W : ℕ → Type 0) (scope : List Known) → ((c : ℕ) → W c → V c) → ((c : ℕ) → V c → W c) → KnownFits cells V scope → KnownFits cells W scope
@@ -69,13 +69,13 @@ module _ (p : CoreProgram) where
       → KnownFits p.cells (λ c. (c ≡ cell) ⊎ V c) (known d.name d.cell.kind ∷ scope)
   known_more V scope cell d found fresh fits = record { each = each; others = others }
     where
-      each : (c : ℕ) (e : CellDecl) → (c ≡ cell) ⊎ V c → slice_get p.cells c ≡ Some e → kind_of (known d.name d.cell.kind ∷ scope) e.name ≡ Some e.cell.kind
+      each : (c : ℕ) (e : CellDecl) → (c ≡ cell) ⊎ V c → slice_get p.cells c ≡ Some e → kind_in_scope (known d.name d.cell.kind ∷ scope) e.name ≡ Some e.cell.kind
       each c e (inl same) at =
           let one : d ≡ e = let f : Some d ≡ Some e = sym found ∙ sym (ap (slice_get p.cells) same) ∙ at in cc in
           kind_first d.name e.name d.cell.kind scope (ap (λ (x : CellDecl). x.name) one) ∙ ap (λ (x : CellDecl). Some x.cell.kind) one
       each c e (inr v) at = kind_under d.name e.name d.cell.kind scope (λ same. fresh c v (named p c e at ∙ sym same ∙ sym (named p cell d found))) ∙ fits.each c e v at
 
-      others : (x : List ℕ) → ((c : ℕ) → (c ≡ cell) ⊎ V c → name_at p.cells c ≡ x → ⊥) → kind_of (known d.name d.cell.kind ∷ scope) x ≡ None
+      others : (x : List ℕ) → ((c : ℕ) → (c ≡ cell) ⊎ V c → name_at p.cells c ≡ x → ⊥) → kind_in_scope (known d.name d.cell.kind ∷ scope) x ≡ None
       others x none = kind_under d.name x d.cell.kind scope (λ same. none cell (inl refl) (named p cell d found ∙ same)) ∙ fits.others x (λ c v e. none c (inr v) e)
 
   -- a name that no cell has is declared without fault
@@ -85,7 +85,7 @@ module _ (p : CoreProgram) where
 
   -- TOKENS
 
-  use_clean : (x : List ℕ) (k : Kind) (t : Token) (scope : List Known) (at : ℕ) → kind_of scope x ≡ Some k → IsTrue (fits_kind k t) → token_fault (token_phrase x t) scope at ≡ None
+  use_clean : (x : List ℕ) (k : Kind) (t : Token) (scope : List Known) (at : ℕ) → kind_in_scope scope x ≡ Some k → IsTrue (fits_kind k t) → token_fault (token_phrase x t) scope at ≡ None
   use_clean x Signal token.On scope at e fits = ap (λ o. first (unknown_fault o at) (signal_fault o at)) e
   use_clean x Signal token.Off scope at e fits = ap (λ o. first (unknown_fault o (at + 1)) (signal_fault o (at + 1))) e
   use_clean x Number (token.AtLeast n) scope at e fits = ap (λ o. first (unknown_fault o at) (number_fault o at)) e
@@ -98,7 +98,7 @@ module _ (p : CoreProgram) where
 
   pair_clean : (locals : List ℕ) (x : ℕ × Token) (scope : List Known) (at : ℕ) → KnownFits p.cells (IsVisible p locals) scope → IsInScope p locals x → token_fault (token_phrase (name_at p.cells x.0) x.1) scope at ≡ None
   pair_clean locals x scope at fits is =
-      use_clean (name_at p.cells x.0) is.decl.cell.kind x.1 scope at (ap (kind_of scope) (named p x.0 is.decl is.found) ∙ fits.each x.0 is.decl is.visible is.found) is.fits
+      use_clean (name_at p.cells x.0) is.decl.cell.kind x.1 scope at (ap (kind_in_scope scope) (named p x.0 is.decl is.found) ∙ fits.each x.0 is.decl is.visible is.found) is.fits
 
   ask_clean : (locals : List ℕ) (c : Constraint) (scope : List Known) (at : ℕ) → KnownFits p.cells (IsVisible p locals) scope → 1 ≤ length c → AreInScope p locals c → constraint_fault (ask_phrase p.cells c) scope at ≡ None
   ask_clean locals [] scope at fits some are = absurd (omega arith)

@@ -15,7 +15,7 @@ use Rattle.agent_core.specs.Agents.{Agent, Constraint, Skip, Tell, Then, Else, P
 use Rattle.agent_core.specs.Programs.{CoreProgram}
 use Rattle.agent_core.specs.Facts.{IsProgram, AreInScope, IsConstraint}
 use Rattle.tdcc_reader.specs.Trees as tree
-use Rattle.tdcc_reader.specs.Surfaces.{Placed, placed, cell_of, ask_of, token_ask, unit_tree, agent_tree, unit_cells, tree_from, program_tree}
+use Rattle.tdcc_reader.specs.Surfaces.{Placed, placed, cell_in_scope, constraint_of, token_tokens, unit_tree, agent_tree, unit_cells, tree_from, program_tree}
 use Rattle.core_reader.specs.Trees.{tree_of}
 use Rattle.core_text.specs.CoreTexts.{name_at}
 use Rattle.core_text.specs.GoodNames.{IsVisible, HasGoodNames}
@@ -27,19 +27,19 @@ use Rattle.core_text_laws.proofs.CoreCells.{found_at, taken, cells_many}
 -- NAMES
 
 -- the newest name is found, and an older one under it
-found_first : (x y : List ℕ) (n : ℕ) (scope : List Placed) → x ≡ y → cell_of (placed x n ∷ scope) y ≡ n
-found_first x y n scope e = ap (λ (b : Bool). if b then n else cell_of scope y) ((bytes_eq-Decides x y).1 e)
+found_first : (x y : List ℕ) (n : ℕ) (scope : List Placed) → x ≡ y → cell_in_scope (placed x n ∷ scope) y ≡ n
+found_first x y n scope e = ap (λ (b : Bool). if b then n else cell_in_scope scope y) ((bytes_eq-Decides x y).1 e)
 
-found_under : (x y : List ℕ) (n : ℕ) (scope : List Placed) → (x ≡ y → ⊥) → cell_of (placed x n ∷ scope) y ≡ cell_of scope y
+found_under : (x y : List ℕ) (n : ℕ) (scope : List Placed) → (x ≡ y → ⊥) → cell_in_scope (placed x n ∷ scope) y ≡ cell_in_scope scope y
 found_under x y n scope differ = go (bytes_eq x y) (bytes_eq-Decides x y).0
   where
-    go : (b : Bool) → (b ≡ true → x ≡ y) → (if b then n else cell_of scope y) ≡ cell_of scope y
+    go : (b : Bool) → (b ≡ true → x ≡ y) → (if b then n else cell_in_scope scope y) ≡ cell_in_scope scope y
     go true h = absurd (differ (h refl))
     go false h = refl
 
 -- each visible cell is found by its name
 pub record ScopeFits (p : CoreProgram) (locals : List ℕ) (scope : List Placed) : Type 0 where
-  pub each : (c : ℕ) → IsVisible p locals c → cell_of scope (name_at p.cells c) ≡ c
+  pub each : (c : ℕ) → IsVisible p locals c → cell_in_scope scope (name_at p.cells c) ≡ c
 
 module _ (p : CoreProgram) where
   -- the name of a cell that stands in the program
@@ -50,31 +50,31 @@ module _ (p : CoreProgram) where
       → ((c : ℕ) → IsVisible p locals c → name_at p.cells c ≡ name_at p.cells cell → ⊥) → ScopeFits p (cell ∷ locals) (placed d.name n ∷ scope)
   local_fits locals scope cell n d fits same found fresh = record { each = each }
     where
-      old : (c : ℕ) → IsVisible p locals c → cell_of (placed d.name n ∷ scope) (name_at p.cells c) ≡ c
+      old : (c : ℕ) → IsVisible p locals c → cell_in_scope (placed d.name n ∷ scope) (name_at p.cells c) ≡ c
       old c v = found_under d.name (name_at p.cells c) n scope (λ e. fresh c v (sym e ∙ sym (named cell d found))) ∙ fits.each c v
 
-      each : (c : ℕ) → IsVisible p (cell ∷ locals) c → cell_of (placed d.name n ∷ scope) (name_at p.cells c) ≡ c
+      each : (c : ℕ) → IsVisible p (cell ∷ locals) c → cell_in_scope (placed d.name n ∷ scope) (name_at p.cells c) ≡ c
       each c (inl h) = old c (inl h)
       each c (inr (inr h)) = old c (inr h)
       each c (inr (inl e)) = found_first d.name (name_at p.cells c) n scope (sym (ap (name_at p.cells) e ∙ named cell d found)) ∙ sym (e ∙ same)
 
   -- CONSTRAINTS
 
-  token_kept : (scope : List Placed) (c : ℕ) (t : Token) → cell_of scope (name_at p.cells c) ≡ c → token_ask scope (token_phrase (name_at p.cells c) t) ≡ (c, t) ∷ []
+  token_kept : (scope : List Placed) (c : ℕ) (t : Token) → cell_in_scope scope (name_at p.cells c) ≡ c → token_tokens scope (token_phrase (name_at p.cells c) t) ≡ (c, t) ∷ []
   token_kept scope c token.On e = ap (λ (k : ℕ). (k, token.On) ∷ []) e
   token_kept scope c token.Off e = ap (λ (k : ℕ). (k, token.Off) ∷ []) e
   token_kept scope c token.Clash e = ap (λ (k : ℕ). (k, token.Clash) ∷ []) e
   token_kept scope c (token.AtLeast i) e = ap (λ (k : ℕ). (k, token.AtLeast i) ∷ []) e
   token_kept scope c (token.AtMost i) e = ap (λ (k : ℕ). (k, token.AtMost i) ∷ []) e
 
-  ask_kept : (locals : List ℕ) (scope : List Placed) (c : Constraint) → ScopeFits p locals scope → 1 ≤ length c → AreInScope p locals c → ask_of scope (ask_phrase p.cells c) ≡ c
+  ask_kept : (locals : List ℕ) (scope : List Placed) (c : Constraint) → ScopeFits p locals scope → 1 ≤ length c → AreInScope p locals c → constraint_of scope (ask_phrase p.cells c) ≡ c
   ask_kept locals scope [] fits some are = absurd (omega arith)
   ask_kept locals scope (x ∷ []) fits some are = token_kept scope x.0 x.1 (fits.each x.0 are.0.visible)
   ask_kept locals scope (x ∷ y ∷ ys) fits some are =
-      ap (λ (q : Constraint). q ++ ask_of scope (ask_phrase p.cells (y ∷ ys))) (token_kept scope x.0 x.1 (fits.each x.0 are.0.visible))
+      ap (λ (q : Constraint). q ++ constraint_of scope (ask_phrase p.cells (y ∷ ys))) (token_kept scope x.0 x.1 (fits.each x.0 are.0.visible))
       ∙ ap (λ (q : Constraint). x ∷ q) (ask_kept locals scope (y ∷ ys) fits (omega arith) are.1)
 
-  constraint_kept : (locals : List ℕ) (scope : List Placed) (c : Constraint) → ScopeFits p locals scope → IsConstraint p locals c → ask_of scope (ask_phrase p.cells c) ≡ c
+  constraint_kept : (locals : List ℕ) (scope : List Placed) (c : Constraint) → ScopeFits p locals scope → IsConstraint p locals c → constraint_of scope (ask_phrase p.cells c) ≡ c
   constraint_kept locals scope c fits is = ask_kept locals scope c fits is.some is.tokens
 
   -- TREES
@@ -133,12 +133,12 @@ decls_tree (d ∷ ds) a scope n =
 module _ (p : CoreProgram) (good : HasGoodNames p) where
   -- the cells below n are found by their names
   abbrev Below : ℕ → List Placed → Type 0
-  Below n scope = (c : ℕ) → c < n → cell_of scope (name_at p.cells c) ≡ c
+  Below n scope = (c : ℕ) → c < n → cell_in_scope scope (name_at p.cells c) ≡ c
 
   one_below : (n : ℕ) (d : CellDecl) (scope : List Placed) → slice_get p.cells n ≡ Some d → n < p.declared → Below n scope → Below (n + 1) (placed d.name n ∷ scope)
   one_below n d scope found lt below c h = go (cases_lt c n)
     where
-      go : (c < n) ⊎ (n ≤ c) → cell_of (placed d.name n ∷ scope) (name_at p.cells c) ≡ c
+      go : (c < n) ⊎ (n ≤ c) → cell_in_scope (placed d.name n ∷ scope) (name_at p.cells c) ≡ c
       go (inl less) = found_under d.name (name_at p.cells c) n scope (λ e. good.declared c n less lt (sym e ∙ sym (named p n d found))) ∙ below c less
       go (inr most) =
           let same : c ≡ n = omega arith in
@@ -166,7 +166,7 @@ module _ (p : CoreProgram) (good : HasGoodNames p) where
       ∙ tree_kept p (agent_at p.nodes 0) [] p.declared (decls_scope ds [] 0) (root_sits p is good) fits
       )
     where
-      visible : (ds : List CellDecl) → length ds ≡ p.declared → (c : ℕ) → IsVisible p [] c → cell_of (decls_scope (take p.declared p.cells) [] 0) (name_at p.cells c) ≡ c
+      visible : (ds : List CellDecl) → length ds ≡ p.declared → (c : ℕ) → IsVisible p [] c → cell_in_scope (decls_scope (take p.declared p.cells) [] 0) (name_at p.cells c) ≡ c
       visible ds many c (inr h) = absurd h
       visible ds many c (inl h) =
           let long : length (take p.declared p.cells) ≡ p.declared = length-take-le p.declared p.cells is.limits.within in

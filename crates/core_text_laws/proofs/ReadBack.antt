@@ -8,8 +8,8 @@ use Rattle.agent_core.specs.Programs.{CoreProgram}
 use Rattle.agent_core.specs.Facts.{IsProgram}
 use Rattle.agent_core.proofs.ListingTrees.{length-listing}
 use Rattle.tdcc_reader.specs.declared.dialect.Dialect.TheVariants as dialect
-use Rattle.tdcc_reader.specs.Trees.{size}
-use Rattle.tdcc_reader.specs.Sayings.{terms_of}
+use Rattle.tdcc_reader.specs.Trees.{form_count}
+use Rattle.tdcc_reader.specs.LexemeTerms.{terms_of}
 use Rattle.tdcc_reader.specs.Surfaces.{cell_view, program_tree, program_cells}
 use Rattle.tdcc_reader.specs.Refusals.{Accepts}
 use Rattle.core_text.specs.CoreTexts.{core_text}
@@ -47,9 +47,9 @@ module _ (p : CoreProgram) (is : IsProgram p) (good : HasGoodNames p) where
       }
 
   -- the phrase has as many forms as the program has nodes, and as many cells
-  forms_many : size (program_tree (program_phrase p)) ≡ length p.nodes
+  forms_many : form_count (program_tree (program_phrase p)) ≡ length p.nodes
   forms_many =
-      sym (ap size (program_kept p good is)) ∙ same_size (agent_at p.nodes 0)
+      sym (ap form_count (program_kept p good is)) ∙ same_size (agent_at p.nodes 0)
       ∙ sym (length-listing 0 (agent_at p.nodes 0)) ∙ sym (ap length (listed p is))
 
   cells_many : length (program_cells (program_phrase p)) ≡ length p.cells

@@ -18,7 +18,7 @@ use Rattle.agent_core.specs.Facts.{IsProgram}
 use Rattle.agent_core.specs.Listing.{listing}
 use Rattle.agent_core.proofs.ListingTrees.{root_tree}
 use Rattle.tdcc_reader.specs.Trees as tree
-use Rattle.tdcc_reader.specs.Sayings.{terms_of}
+use Rattle.tdcc_reader.specs.LexemeTerms.{terms_of}
 use Rattle.tdcc_reader.specs.Surfaces.{program_cells, declared_cells, program_tree}
 use Rattle.core_reader.specs.Trees.{tree_of}
 use Rattle.surface_laws.proofs.CellViews.{same_cells}
@@ -100,7 +100,7 @@ listed p is = is.tree.1 ∙ ap (listing 0) (sym (root_tree p.nodes is.tree))
 
 -- programs of which the same trees are read have the same nodes
 same_tree : (a b : core.Agent) → tree_of a ≡ tree_of b → listing 0 a ≡ listing 0 b
-same_tree a b e = same_nodes (listing 0 a) (listing 0 b) (forms_listed 0 a ∙ ap (tree.listing 0) e ∙ sym (forms_listed 0 b))
+same_tree a b e = same_nodes (listing 0 a) (listing 0 b) (forms_listed 0 a ∙ ap (tree.form_listing 0) e ∙ sym (forms_listed 0 b))
 
 -- A text is at most one program.
 pub one_spelled : (text : List ℕ) (p q : CoreProgram) → IsProgram p → IsProgram q → IsSpelled text p → IsSpelled text q → p ≡ q

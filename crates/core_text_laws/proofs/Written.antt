@@ -14,7 +14,7 @@ use Rattle.program_lexemes.specs.Numbers.{is_long}
 use Rattle.program_lexemes.specs.SpacedLexemes.{SpacedLexeme, spaced_text, spans, goes_on, stops, AreCut}
 use Rattle.program_lexemes.proofs.Joined.{joined_reads}
 use Rattle.program_grammar.specs.Terms.{Term}
-use Rattle.tdcc_reader.specs.Sayings.{says, terms_of, too_long}
+use Rattle.tdcc_reader.specs.LexemeTerms.{term_of_lexeme, terms_of, too_long}
 
 pub append_three : (a b c rest : List ℕ) → ((a ++ b) ++ c) ++ rest ≡ a ++ (b ++ (c ++ rest))
 append_three a b c rest = append_assoc (a ++ b) c rest ∙ append_assoc a b (c ++ rest)
@@ -27,7 +27,7 @@ AreShort (q ∷ ps) = (is_long q.kind q.bytes ≡ false) × AreShort ps
 -- what the pieces say
 abbrev said : List SpacedLexeme → List Term
 said [] = []
-said (q ∷ ps) = says q.kind q.bytes ∷ said ps
+said (q ∷ ps) = term_of_lexeme q.kind q.bytes ∷ said ps
 
 -- the text is made of pieces that say these terms
 pub record IsWritten (form : TextForm) (text : List ℕ) (terms : List Term) : Type 0 where
@@ -46,7 +46,7 @@ none_written = record { pieces = []; text_is = refl; cut = tt; short = tt; terms
 
 -- a piece more, in front
 pub more_written : {form : TextForm} (bytes : List ℕ) (k : LexKind) (space : List ℕ) (term : Term) {text : List ℕ} {terms : List Term} → kind_of form bytes ≡ Some k → list_all is_white space ≡ true → is_long k bytes ≡ false
-    → stops (goes_on k bytes) (space ++ text) → says k bytes ≡ term → IsWritten form text terms → IsWritten form (bytes ++ (space ++ text)) (term ∷ terms)
+    → stops (goes_on k bytes) (space ++ text) → term_of_lexeme k bytes ≡ term → IsWritten form text terms → IsWritten form (bytes ++ (space ++ text)) (term ∷ terms)
 more_written bytes k space term {text} {terms} is white short cut say w = record {
   pieces = record { bytes = bytes; kind = k; space = space } ∷ w.pieces;
   text_is = ap (λ (t : List ℕ). bytes ++ (space ++ t)) w.text_is;
@@ -86,9 +86,9 @@ spans_read {X} f (q ∷ ps) pre n e =
     ∙ ap (λ (t : List ℕ). f q.kind q.bytes ∷ map (λ l. f l.kind (bytes_of_lexeme t l)) (spans (n + length q.bytes + length q.space) ps)) (sym (append_three pre q.bytes q.space (spaced_text ps)))
     ∙ ap (λ (xs : List X). f q.kind q.bytes ∷ xs) (spans_read f ps front (n + length q.bytes + length q.space) (let l = long pre q.bytes q.space in omega arith))
 
-said-read : (ps : List SpacedLexeme) → read_all says ps ≡ said ps
+said-read : (ps : List SpacedLexeme) → read_all term_of_lexeme ps ≡ said ps
 said-read [] = refl
-said-read (q ∷ ps) = ap (λ (ts : List Term). says q.kind q.bytes ∷ ts) (said-read ps)
+said-read (q ∷ ps) = ap (λ (ts : List Term). term_of_lexeme q.kind q.bytes ∷ ts) (said-read ps)
 
 -- no element passes a test where none of the answers is true
 none_passes : {X : Type 0} (test : X → Bool) (xs : List X) → list_all (λ (b : Bool). not b) (map test xs) ≡ true → position_or_len test xs ≡ length xs
@@ -122,5 +122,5 @@ written_lexed form text terms w =
       lexemes = spans 0 w.pieces;
       lexed = joined_reads form w.pieces w.cut;
       short = no_position (too_long (spaced_text w.pieces)) (spans 0 w.pieces) (ap (list_all (λ (b : Bool). not b)) (spans_read is_long w.pieces [] 0 refl) ∙ short_read w.pieces w.short);
-      terms_are = spans_read says w.pieces [] 0 refl ∙ said-read w.pieces ∙ w.terms_are;
+      terms_are = spans_read term_of_lexeme w.pieces [] 0 refl ∙ said-read w.pieces ∙ w.terms_are;
     })

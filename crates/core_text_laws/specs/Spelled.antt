@@ -8,7 +8,7 @@ use Rattle.program_grammar.specs.Phrases.{ProgramPhrase}
 use Rattle.program_grammar.specs.Programs.{Spells}
 use Rattle.agent_core.specs.Agents.{agent_at}
 use Rattle.agent_core.specs.Programs.{CoreProgram}
-use Rattle.tdcc_reader.specs.Sayings.{terms_of, too_long}
+use Rattle.tdcc_reader.specs.LexemeTerms.{terms_of, too_long}
 use Rattle.tdcc_reader.specs.Scope.{program_fault}
 use Rattle.tdcc_reader.specs.Surfaces.{cell_view, declared_cells, program_cells, program_tree}
 use Rattle.core_reader.specs.Trees.{tree_of}

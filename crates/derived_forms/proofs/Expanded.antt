@@ -25,15 +25,15 @@ use Rattle.derived_forms.proofs.Sketched.{length-pieces}
 
 -- THE TREE: a form for each of its nodes, of which the news are some
 
-forms_many : (n : ℕ) (t : Tree) → length (tree.listing n t) ≡ tree.size t
+forms_many : (n : ℕ) (t : Tree) → length (tree.form_listing n t) ≡ tree.form_count t
 forms_many n tree.Skip = refl
 forms_many n (tree.Tell c) = refl
 forms_many n (tree.Then c a) = ap suc (forms_many (suc n) a)
 forms_many n (tree.Else c a) = ap suc (forms_many (suc n) a)
 forms_many n (tree.Par l r) =
     let left = forms_many (suc n) l in
-    let right = forms_many (suc n + tree.size l) r in
-    omega (arith, length-append (tree.listing (suc n) l) (tree.listing (suc n + tree.size l) r))
+    let right = forms_many (suc n + tree.form_count l) r in
+    omega (arith, length-append (tree.form_listing (suc n) l) (tree.form_listing (suc n + tree.form_count l) r))
 forms_many n (tree.New cell a) = ap suc (forms_many (suc n) a)
 forms_many n (tree.Hence a) = ap suc (forms_many (suc n) a)
 forms_many n (tree.Next a) = ap suc (forms_many (suc n) a)
@@ -42,7 +42,7 @@ forms_many n (tree.When c a) = ap suc (forms_many (suc n) a)
 forms_many n (tree.Watch a c) = ap suc (forms_many (suc n) a)
 forms_many n (tree.Time a c) = ap suc (forms_many (suc n) a)
 
-news_few : (t : Tree) → length (new_cells t) ≤ tree.size t
+news_few : (t : Tree) → length (new_cells t) ≤ tree.form_count t
 news_few tree.Skip = omega arith
 news_few (tree.Tell c) = omega arith
 news_few (tree.Then c a) = let h = news_few a in omega arith
@@ -92,12 +92,12 @@ clocked_more k c (New o mark a) = let h = clocked_more k c a in omega arith
 clocked_more k c (Hence o a) = let h = clocked_more k c a in omega arith
 clocked_more k c (Next o a) = let h = clocked_more k c a in omega arith
 
-sketch_more : (cells m : ℕ) (t : Tree) → tree.size t ≤ size (sketch_of cells m t)
+sketch_more : (cells m : ℕ) (t : Tree) → tree.form_count t ≤ size (sketch_of cells m t)
 sketch_more cells m tree.Skip = omega arith
 sketch_more cells m (tree.Tell c) = omega arith
 sketch_more cells m (tree.Then c a) = let h = sketch_more cells (suc m) a in omega arith
 sketch_more cells m (tree.Else c a) = let h = sketch_more cells (suc m) a in omega arith
-sketch_more cells m (tree.Par l r) = let g = sketch_more cells (suc m) l in let h = sketch_more cells (suc m + tree.size l) r in omega arith
+sketch_more cells m (tree.Par l r) = let g = sketch_more cells (suc m) l in let h = sketch_more cells (suc m + tree.form_count l) r in omega arith
 sketch_more cells m (tree.New cell a) = let h = sketch_more cells (suc m) a in omega arith
 sketch_more cells m (tree.Hence a) = let h = sketch_more cells (suc m) a in omega arith
 sketch_more cells m (tree.Next a) = let h = sketch_more cells (suc m) a in omega arith
@@ -113,7 +113,7 @@ module _ (s : SurfaceProgram) (is : IsSurface s) where
   abbrev pub its_sketch : Sketch
   its_sketch = sketch_of (length s.cells) 0 its_tree
 
-  pub its_forms : s.forms ≡ tree.listing 0 its_tree
+  pub its_forms : s.forms ≡ tree.form_listing 0 its_tree
   its_forms = (surface_formed s is).forms
 
   pub drawn : IsSketchOf s its_sketch
@@ -144,7 +144,7 @@ program_with cells declared nodes = record { cells = cells; declared = declared;
 -- what the parts of an expansion come to: what was grown, its marks, nodes and cells
 pub record Expands (s : SurfaceProgram) (grown : List Piece) (ms : List ℕ) (cells : List CellDecl) (declared : ℕ) (nodes : List Node) : Type 0 where
   pub surface : IsSurface s
-  pub grown_is : (t : Tree) → s.forms ≡ tree.listing 0 t → reverse grown ≡ pieces (sketch_of (length s.cells) 0 t)
+  pub grown_is : (t : Tree) → s.forms ≡ tree.form_listing 0 t → reverse grown ≡ pieces (sketch_of (length s.cells) 0 t)
   pub marks_are : (d : Sketch) → reverse grown ≡ pieces d → ms ≡ marks d
   pub nodes_are : (d : Sketch) → reverse grown ≡ pieces d → nodes ≡ core.listing 0 (agent_of [] declared d)
   pub cells_are : cells ≡ take declared s.cells ++ cells_from s.cells declared ms
@@ -156,7 +156,7 @@ module _ (s : SurfaceProgram) (grown : List Piece) (ms : List ℕ) (cells : List
   abbrev pub its_program : CoreProgram
   its_program = program_with cells declared nodes
 
-  pub by_tree : (t : Tree) → s.forms ≡ tree.listing 0 t → IsProgramOf s (sketch_of (length s.cells) 0 t) its_program
+  pub by_tree : (t : Tree) → s.forms ≡ tree.form_listing 0 t → IsProgramOf s (sketch_of (length s.cells) 0 t) its_program
   by_tree t e =
       let g = x.grown_is t e in
       made_of s (sketch_of (length s.cells) 0 t) cells declared nodes ms its_program (x.nodes_are (sketch_of (length s.cells) 0 t) g) x.cells_are (x.marks_are (sketch_of (length s.cells) 0 t) g) x.declared_is refl

@@ -5,7 +5,7 @@ use Rattle.std.proofs.lemmas.List.{append-nil, length-append}
 use Rattle.agent_core.specs.Agents.{Constraint}
 use Rattle.tdcc_reader.specs.declared.surface.Form.{Form}
 use Rattle.tdcc_reader.specs.declared.surface.Form.TheVariants as form
-use Rattle.tdcc_reader.specs.Trees.{Tree, listing}
+use Rattle.tdcc_reader.specs.Trees.{Tree, form_listing}
 use Rattle.tdcc_reader.specs.Trees as tree
 use Rattle.expansion_laws.specs.Expanding.{sketch_of}
 use Rattle.expansion_laws.specs.Origins.{Part, part}
@@ -19,7 +19,7 @@ use Rattle.derived_forms.proofs.Sketched.{length-pieces}
 
 -- the forms of a numbered tree, the first of them, its parts, its number and its size
 abbrev pub part_forms : Part → List Form
-part_forms p = listing p.number p.tree
+part_forms p = form_listing p.number p.tree
 
 abbrev pub part_form : Part → Form
 part_form p = first_form p.number p.tree
@@ -31,24 +31,24 @@ abbrev pub part_number : Part → ℕ
 part_number p = p.number
 
 abbrev pub part_size : Part → ℕ
-part_size p = tree.size p.tree
+part_size p = tree.form_count p.tree
 
 one_part : (f : Form) (l : List Form) → f ∷ l ≡ f ∷ (l ++ [])
 one_part f l = ap (λ m. f ∷ m) (sym (append-nil l))
 
-listing-split : (n : ℕ) (t : Tree) → listing n t ≡ first_form n t ∷ flat_map part_forms (tree_parts n t)
+listing-split : (n : ℕ) (t : Tree) → form_listing n t ≡ first_form n t ∷ flat_map part_forms (tree_parts n t)
 listing-split n tree.Skip = refl
 listing-split n (tree.Tell c) = refl
-listing-split n (tree.Then c a) = one_part (form.Then c (suc n)) (listing (suc n) a)
-listing-split n (tree.Else c a) = one_part (form.Else c (suc n)) (listing (suc n) a)
-listing-split n (tree.Par l r) = ap (λ m. form.Par (suc n) (suc n + tree.size l) ∷ (listing (suc n) l ++ m)) (sym (append-nil (listing (suc n + tree.size l) r)))
-listing-split n (tree.New cell a) = one_part (form.New cell (suc n)) (listing (suc n) a)
-listing-split n (tree.Hence a) = one_part (form.Hence (suc n)) (listing (suc n) a)
-listing-split n (tree.Next a) = one_part (form.Next (suc n)) (listing (suc n) a)
-listing-split n (tree.Always a) = one_part (form.Always (suc n)) (listing (suc n) a)
-listing-split n (tree.When c a) = one_part (form.When c (suc n)) (listing (suc n) a)
-listing-split n (tree.Watch a c) = one_part (form.Watch (suc n) c) (listing (suc n) a)
-listing-split n (tree.Time a c) = one_part (form.Time (suc n) c) (listing (suc n) a)
+listing-split n (tree.Then c a) = one_part (form.Then c (suc n)) (form_listing (suc n) a)
+listing-split n (tree.Else c a) = one_part (form.Else c (suc n)) (form_listing (suc n) a)
+listing-split n (tree.Par l r) = ap (λ m. form.Par (suc n) (suc n + tree.form_count l) ∷ (form_listing (suc n) l ++ m)) (sym (append-nil (form_listing (suc n + tree.form_count l) r)))
+listing-split n (tree.New cell a) = one_part (form.New cell (suc n)) (form_listing (suc n) a)
+listing-split n (tree.Hence a) = one_part (form.Hence (suc n)) (form_listing (suc n) a)
+listing-split n (tree.Next a) = one_part (form.Next (suc n)) (form_listing (suc n) a)
+listing-split n (tree.Always a) = one_part (form.Always (suc n)) (form_listing (suc n) a)
+listing-split n (tree.When c a) = one_part (form.When c (suc n)) (form_listing (suc n) a)
+listing-split n (tree.Watch a c) = one_part (form.Watch (suc n) c) (form_listing (suc n) a)
+listing-split n (tree.Time a c) = one_part (form.Time (suc n) c) (form_listing (suc n) a)
 
 pub forms-split : Splits part_parts part_forms part_form
 forms-split p = listing-split p.number p.tree
@@ -103,8 +103,8 @@ parts_fit cells n (tree.Then c a) = let e = one_long (sketch_of cells (suc n) a)
 parts_fit cells n (tree.Else c a) = let e = one_long (sketch_of cells (suc n) a) in omega arith
 parts_fit cells n (tree.Par l r) =
     let e = length-pieces (sketch_of cells (suc n) l) in
-    let f = one_long (sketch_of cells (suc n + tree.size l) r) in
-    let g = length-append (pieces (sketch_of cells (suc n) l)) (pieces (sketch_of cells (suc n + tree.size l) r) ++ []) in omega arith
+    let f = one_long (sketch_of cells (suc n + tree.form_count l) r) in
+    let g = length-append (pieces (sketch_of cells (suc n) l)) (pieces (sketch_of cells (suc n + tree.form_count l) r) ++ []) in omega arith
 parts_fit cells n (tree.New cell a) = let e = one_long (sketch_of cells (suc n) a) in omega arith
 parts_fit cells n (tree.Hence a) = let e = one_long (sketch_of cells (suc n) a) in omega arith
 parts_fit cells n (tree.Next a) = let e = one_long (sketch_of cells (suc n) a) in omega arith
@@ -124,12 +124,12 @@ pub parts_no_longer : (cells : ℕ) (p : Part) → length (flat_map (sketch_piec
 parts_no_longer cells p = let f = parts_fit cells p.number p.tree in let l = length-pieces (sketch_of cells p.number p.tree) in omega arith
 
 -- A sketch has at least as many nodes as its tree has forms.
-pub size-sketch : (cells n : ℕ) (t : Tree) → tree.size t ≤ size (sketch_of cells n t)
+pub size-sketch : (cells n : ℕ) (t : Tree) → tree.form_count t ≤ size (sketch_of cells n t)
 size-sketch cells n tree.Skip = omega arith
 size-sketch cells n (tree.Tell c) = omega arith
 size-sketch cells n (tree.Then c a) = let i = size-sketch cells (suc n) a in omega arith
 size-sketch cells n (tree.Else c a) = let i = size-sketch cells (suc n) a in omega arith
-size-sketch cells n (tree.Par l r) = let i = size-sketch cells (suc n) l in let j = size-sketch cells (suc n + tree.size l) r in omega arith
+size-sketch cells n (tree.Par l r) = let i = size-sketch cells (suc n) l in let j = size-sketch cells (suc n + tree.form_count l) r in omega arith
 size-sketch cells n (tree.New cell a) = let i = size-sketch cells (suc n) a in omega arith
 size-sketch cells n (tree.Hence a) = let i = size-sketch cells (suc n) a in omega arith
 size-sketch cells n (tree.Next a) = let i = size-sketch cells (suc n) a in omega arith
@@ -138,15 +138,15 @@ size-sketch cells n (tree.When c a) = let i = size-sketch cells (suc n) a in ome
 size-sketch cells n (tree.Watch a c) = let i = size-sketch cells (suc n) a in let s = size-guarded (cells + n) (sketch_of cells (suc n) a) in omega arith
 size-sketch cells n (tree.Time a c) = let i = size-sketch cells (suc n) a in let s = size-clocked (cells + n) c (sketch_of cells (suc n) a) in omega arith
 
-pub length-listing : (n : ℕ) (t : Tree) → length (listing n t) ≡ tree.size t
+pub length-listing : (n : ℕ) (t : Tree) → length (form_listing n t) ≡ tree.form_count t
 length-listing n tree.Skip = refl
 length-listing n (tree.Tell c) = refl
 length-listing n (tree.Then c a) = ap suc (length-listing (suc n) a)
 length-listing n (tree.Else c a) = ap suc (length-listing (suc n) a)
 length-listing n (tree.Par l r) =
-    let e = length-append (listing (suc n) l) (listing (suc n + tree.size l) r) in
+    let e = length-append (form_listing (suc n) l) (form_listing (suc n + tree.form_count l) r) in
     let f = length-listing (suc n) l in
-    let g = length-listing (suc n + tree.size l) r in omega arith
+    let g = length-listing (suc n + tree.form_count l) r in omega arith
 length-listing n (tree.New cell a) = ap suc (length-listing (suc n) a)
 length-listing n (tree.Hence a) = ap suc (length-listing (suc n) a)
 length-listing n (tree.Next a) = ap suc (length-listing (suc n) a)

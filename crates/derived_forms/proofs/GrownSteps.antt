@@ -3,7 +3,7 @@ use Rattle.std.proofs.Common.{◌≡◌, ℕ, ◌+◌, ◌<◌, ◌≤◌, List,
 use Rattle.std.specs.List.{flat_map}
 use Rattle.std.proofs.lemmas.List.{append-nil, length-append, length-take-le, take_more, take_all}
 use Rattle.tdcc_reader.specs.declared.surface.Form.{Form}
-use Rattle.tdcc_reader.specs.Trees.{Tree, listing}
+use Rattle.tdcc_reader.specs.Trees.{Tree, form_listing}
 use Rattle.expansion_laws.specs.Expanding.{sketch_of}
 use Rattle.expansion_laws.specs.Origins.{Part, part}
 use Rattle.expansion_laws.specs.Sketches.{size}
@@ -19,8 +19,8 @@ use Rattle.derived_forms.proofs.Sketched.{length-pieces}
 abbrev pub IsGrown : ℕ → Tree → List Form → List Piece → Type 0
 IsGrown cells t front nodes = IsBack part_parts part_forms (sketch_pieces cells) (part 0 t ∷ []) [] front nodes
 
-pub grow_start : (cells : ℕ) (t : Tree) (forms front : List Form) (nodes : List Piece) → forms ≡ listing 0 t → front ≡ forms → nodes ≡ [] → IsGrown cells t front nodes
-grow_start cells t forms front nodes e f none = back_start part_parts part_forms part_form (sketch_pieces cells) forms-split (part 0 t ∷ []) [] front nodes (f ∙ e ∙ sym (append-nil (listing 0 t))) none
+pub grow_start : (cells : ℕ) (t : Tree) (forms front : List Form) (nodes : List Piece) → forms ≡ form_listing 0 t → front ≡ forms → nodes ≡ [] → IsGrown cells t front nodes
+grow_start cells t forms front nodes e f none = back_start part_parts part_forms part_form (sketch_pieces cells) forms-split (part 0 t ∷ []) [] front nodes (f ∙ e ∙ sym (append-nil (form_listing 0 t))) none
 
 -- the tree of the form with this number, and the nodes behind its sketch
 pub record Grows (cells : ℕ) (t : Tree) (forms : List Form) (left : ℕ) (f : Form) (nodes : List Piece) : Type 0 where

@@ -2,7 +2,7 @@
 use Rattle.std.specs.Prelude.{ℕ, suc, ◌+◌, List, [], ◌∷◌}
 use Rattle.tdcc_reader.specs.declared.surface.Form.{Form}
 use Rattle.tdcc_reader.specs.declared.surface.Form.TheVariants as form
-use Rattle.tdcc_reader.specs.Trees.{Tree, Skip, Tell, Then, Else, Par, New, Hence, Next, Always, When, Watch, Time, size}
+use Rattle.tdcc_reader.specs.Trees.{Tree, Skip, Tell, Then, Else, Par, New, Hence, Next, Always, When, Watch, Time, form_count}
 use Rattle.expansion_laws.specs.Expanding.{sketch_of}
 use Rattle.expansion_laws.specs.Origins.{Part, part}
 use Rattle.derived_forms.specs.declared.piece.Piece.{Piece}
@@ -14,7 +14,7 @@ first_form n Skip = form.Skip
 first_form n (Tell c) = form.Tell c
 first_form n (Then c a) = form.Then c (suc n)
 first_form n (Else c a) = form.Else c (suc n)
-first_form n (Par l r) = form.Par (suc n) (suc n + size l)
+first_form n (Par l r) = form.Par (suc n) (suc n + form_count l)
 first_form n (New cell a) = form.New cell (suc n)
 first_form n (Hence a) = form.Hence (suc n)
 first_form n (Next a) = form.Next (suc n)
@@ -29,7 +29,7 @@ tree_parts n Skip = []
 tree_parts n (Tell c) = []
 tree_parts n (Then c a) = part (suc n) a ∷ []
 tree_parts n (Else c a) = part (suc n) a ∷ []
-tree_parts n (Par l r) = part (suc n) l ∷ part (suc n + size l) r ∷ []
+tree_parts n (Par l r) = part (suc n) l ∷ part (suc n + form_count l) r ∷ []
 tree_parts n (New cell a) = part (suc n) a ∷ []
 tree_parts n (Hence a) = part (suc n) a ∷ []
 tree_parts n (Next a) = part (suc n) a ∷ []

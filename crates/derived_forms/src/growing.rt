@@ -1,7 +1,7 @@
 // The sketch of a surface, grown from its last form to its first.
 ghost use Rattle.std.specs.Prelude.{◌≡◌, ◌+◌, ◌<◌, ◌≤◌, ◌^◌, ◌++◌, List, IfErr, IfOk, OnOk, length, reverse};
 ghost use Rattle.std.specs.List.{flat_map};
-ghost use Rattle.tdcc_reader.specs.Trees.{Tree, listing};
+ghost use Rattle.tdcc_reader.specs.Trees.{Tree, form_listing};
 ghost use Rattle.expansion_laws.specs.Expanding.{sketch_of};
 ghost use Rattle.expansion_laws.specs.Sketches.{size};
 ghost use Rattle.derived_forms.specs.Growths.{nodes_of};
@@ -51,10 +51,10 @@ fn put_form(growth: &mut Growth, form: &Form, cells: u32, number: u32) -> Result
 /// The nodes of the sketch of a surface with so many cells, the last one first.
 pub(crate) fn grow(alloc: Global, forms: &[Form], cells: u32) -> Result<Vec<Piece>, ExpandFault>
     requires { cells + length forms.now < 2 ^ 32 }
-    ensures grown { (t : Tree) → forms.now ≡ listing 0 t
+    ensures grown { (t : Tree) → forms.now ≡ form_listing 0 t
         → IfOk result (λ grown. reverse grown.items ≡ pieces (sketch_of cells 0 t)) }
     ensures room { IfOk result (λ grown. length grown.items ≤ 4096) }
-    ensures fault { (t : Tree) → forms.now ≡ listing 0 t → IfErr result (IsTooLarge (size (sketch_of cells 0 t))) }
+    ensures fault { (t : Tree) → forms.now ≡ form_listing 0 t → IfErr result (IsTooLarge (size (sketch_of cells 0 t))) }
 {
     let mut growth = Growth::new(alloc);
     let mut left = forms.len();

@@ -18,7 +18,7 @@ use Rattle.agent_core.proofs.NewNodes.{new_of-one}
 use Rattle.agent_laws.proofs.Eachs.{Each-map, each_all}
 use Rattle.program_lexemes.specs.declared.bytes.TextForm.{TextForm}
 use Rattle.tdcc_reader.specs.Surfaces.{SurfaceProgram}
-use Rattle.tdcc_reader.specs.Trees.{Tree, Tell, Watch, Time, size, listing}
+use Rattle.tdcc_reader.specs.Trees.{Tree, Tell, Watch, Time, form_count, form_listing}
 use Rattle.surface_laws.specs.Surfaces.{Scoped, bare, IsWellFormed}
 use Rattle.expansion_laws.specs.Sketches.{Sketch, origins, marks}
 use Rattle.expansion_laws.specs.Numbering.{Placed, ask_of}
@@ -77,15 +77,15 @@ all_around p n cells over ask known =
     one x (inl lt) = inl lt
     one x (inr among) = inr (around_one p n cells x over among)
 
-over_older : (p : CoreProgram) (k size : ℕ) (newer older : List Placed) → AreOver p k size (cells_of (newer ++ older)) → AreOver p k size (cells_of older)
-over_older p k size [] older h = h
-over_older p k size (q ∷ newer) older h = over_older p k size newer older h.1
+over_older : (p : CoreProgram) (k form_count : ℕ) (newer older : List Placed) → AreOver p k form_count (cells_of (newer ++ older)) → AreOver p k form_count (cells_of older)
+over_older p k form_count [] older h = h
+over_older p k form_count (q ∷ newer) older h = over_older p k form_count newer older h.1
 
 -- a cell whose new stands around is named under the first births as under all
-module _ (p : CoreProgram) (is : IsProgram p) (k size : ℕ) (cells births more : List ℕ) (over : AreOver p k size cells) (even : length births ≡ length cells) (x : ℕ) where
+module _ (p : CoreProgram) (is : IsProgram p) (k form_count : ℕ) (cells births more : List ℕ) (over : AreOver p k form_count cells) (even : length births ≡ length cells) (x : ℕ) where
   local_same : IsAmong cells x → local_name p.nodes births (new_of p.nodes x) ≡ local_name p.nodes (births ++ more) (new_of p.nodes x)
   local_same among =
-      let found = over_one p k size cells x over among in
+      let found = over_one p k form_count cells x over among in
       let o = found.2 in
       let lt = found.1 in
       let deep : depth_of p.nodes (new_of p.nodes x) ≡ found.0 = ap (depth_of p.nodes) (new_of-one p is o.new x o.body o.found) ∙ o.deep in
@@ -106,7 +106,7 @@ module _ (p : CoreProgram) (is : IsProgram p) (k size : ℕ) (cells births more 
       go false r = local known r
 
 -- the constraints of a well-formed surface are in scope, as its tree has them
-pub in_scope_there : (form : TextForm) (s : SurfaceProgram) (tree : Tree) → IsWellFormed form s → s.forms ≡ listing 0 tree → Scoped (bare s) [] tree
+pub in_scope_there : (form : TextForm) (s : SurfaceProgram) (tree : Tree) → IsWellFormed form s → s.forms ≡ form_listing 0 tree → Scoped (bare s) [] tree
 in_scope_there form s tree well forms = subst (λ (t : Tree). Scoped (bare s) [] t) (one_tree well.tree tree (sym well.forms ∙ forms)) well.scoped
 
 -- LEAVES
@@ -117,7 +117,7 @@ stems_there s d l told form o found tells (inl e) = inl (cc)
 stems_there s d l told form o found tells (inr (e, added)) = inr (cc, (added.0, added.1, let same = added.2 in cc))
 
 -- what is shown of the tells of a tree's sketch that stem from forms below a form holds of the tell leaves inside that form
-module _ (s : SurfaceProgram) (tree : Tree) (p : CoreProgram) (made : IsProgramOf s (sketch_of (length s.cells) 0 tree) p) (m : ℕ) (a x : Tree) (long : size x ≡ suc (size a)) (G : Way → Type 0) where
+module _ (s : SurfaceProgram) (tree : Tree) (p : CoreProgram) (made : IsProgramOf s (sketch_of (length s.cells) 0 tree) p) (m : ℕ) (a x : Tree) (long : form_count x ≡ suc (form_count a)) (G : Way → Type 0) where
   abbrev pub HasThere : Leaf → Type 0
   HasThere l = (scope : List Placed) × AreOver p l.node 1 (cells_of scope) × G (way scope l.births l.path)
 

@@ -6,7 +6,7 @@ use Rattle.agent_core.specs.Agents.{Constraint}
 use Rattle.agent_core.specs.Leaves.{Guard}
 use Rattle.agent_core.specs.Facts.{IsAmong}
 use Rattle.agent_core.specs.Programs.{CoreProgram}
-use Rattle.tdcc_reader.specs.Trees.{Tree, Skip, Tell, Then, Else, Par, New, Hence, Next, Always, When, Watch, Time, size}
+use Rattle.tdcc_reader.specs.Trees.{Tree, Skip, Tell, Then, Else, Par, New, Hence, Next, Always, When, Watch, Time, form_count}
 use Rattle.surface_laws.specs.Surfaces.{Scoped}
 use Rattle.expansion_laws.specs.Numbering.{cell_of, ask_of}
 use Rattle.expansion_laws.specs.Table.{on}
@@ -71,10 +71,10 @@ module _ (q : CoreProgram) (cells : ℕ) (ms : List ℕ) (whole : List Part) whe
   tells_stem (Else b a) locals n all s w v = tells_stem a locals (suc n) (behind n (Else b a) (parts (suc n) a) all) s.1 (denied w b) (record { even = v.even; reads = v.reads })
   tells_stem (Par l r) locals n all s w v =
       let left = parts (suc n) l in
-      let right = parts (suc n + size l) r in
+      let right = parts (suc n + form_count l) r in
       let both = behind n (Par l r) (left ++ right) all in (
         tells_stem l locals (suc n) (λ y k. both y (Contains-append_left left right y k)) s.0 w v,
-        tells_stem r locals (suc n + size l) (λ y k. both y (Contains-append_right left right y k)) s.1 w v,
+        tells_stem r locals (suc n + form_count l) (λ y k. both y (Contains-append_right left right y k)) s.1 w v,
       )
   tells_stem (New cell a) locals n all s w v = λ number t e. tells_stem a (cell ∷ locals) (suc n) (behind n (New cell a) (parts (suc n) a) all) s (born w cell number t) (valid_born ms q.declared locals w cell number t e v)
   tells_stem (Hence a) locals n all s w v = λ u o. tells_stem a locals (suc n) (behind n (Hence a) (parts (suc n) a) all) s u (valid_opens ms q.declared locals w u o v)

@@ -5,7 +5,7 @@ use Rattle.std.proofs.lemmas.List.Elements.{Contains-append_cases}
 use Rattle.agent_core.specs.Agents.{Constraint}
 use Rattle.agent_core.specs.Leaves.{Guard}
 use Rattle.agent_core.specs.Programs.{CoreProgram}
-use Rattle.tdcc_reader.specs.Trees.{Tree, Skip, Tell, Then, Else, Par, New, Hence, Next, Always, When, Watch, Time, size}
+use Rattle.tdcc_reader.specs.Trees.{Tree, Skip, Tell, Then, Else, Par, New, Hence, Next, Always, When, Watch, Time, form_count}
 use Rattle.surface_laws.specs.Surfaces.{Scoped}
 use Rattle.expansion_laws.specs.Numbering.{placed}
 use Rattle.expansion_laws.specs.Expanding.{sketch_of}
@@ -40,7 +40,7 @@ module _ (ms : List ℕ) (floor : ℕ) where
 
 -- the form stands below form m, of which this is the tree
 abbrev pub IsBelow : ℕ → Tree → ℕ → Type 0
-IsBelow m x form = (m < form) × (form < m + size x)
+IsBelow m x form = (m < form) × (form < m + form_count x)
 
 module _ (cells : ℕ) (ms : List ℕ) (floor m : ℕ) (x : Tree) (G : Way → Type 0) (push : (w : Way) (g : Guard) → G w → G (below w g)) where
   abbrev R : Option ℕ → Way → Constraint → Type 0
@@ -65,22 +65,22 @@ module _ (cells : ℕ) (ms : List ℕ) (floor m : ℕ) (x : Tree) (G : Way → T
   out_body n long out form from to i = out form (omega arith) (omega arith) i
 
   -- a tree apart from form m has no tell of its copies
-  pub apart : (t : Tree) (n : ℕ) → IsOut n (size t) → (w : Way) → IsEven w → Each w t n
+  pub apart : (t : Tree) (n : ℕ) → IsOut n (form_count t) → (w : Way) → IsEven w → Each w t n
   apart Skip n out w even = tt
   apart (Tell c) n out w even = has_copy cells ms (IsBelow m x) G n w c (out n (omega arith) (omega arith))
-  apart (Then c a) n out w even = apart a (suc n) (out_body n (size a) out) (asked w c) even
-  apart (Else c a) n out w even = apart a (suc n) (out_body n (size a) out) (denied w c) even
+  apart (Then c a) n out w even = apart a (suc n) (out_body n (form_count a) out) (asked w c) even
+  apart (Else c a) n out w even = apart a (suc n) (out_body n (form_count a) out) (denied w c) even
   apart (Par l r) n out w even = (
     apart l (suc n) (λ form from to i. out form (omega arith) (omega arith) i) w even,
-    apart r (suc n + size l) (λ form from to i. out form (omega arith) (omega arith) i) w even,
+    apart r (suc n + form_count l) (λ form from to i. out form (omega arith) (omega arith) i) w even,
   )
-  apart (New cell a) n out w even = λ c t e. apart a (suc n) (out_body n (size a) out) (born w cell c t) (even_born w cell c t even)
-  apart (Hence a) n out w even = λ v o. apart a (suc n) (out_body n (size a) out) v o.even
-  apart (Next a) n out w even = λ v o. apart a (suc n) (out_body n (size a) out) v o.even
-  apart (Always a) n out w even = always_kept ms R w (sketch_of cells (suc n) a) (λ v o. apart a (suc n) (out_body n (size a) out) v o.even) w (opens_same ms w even)
-  apart (When c a) n out w even = when_kept ms R w (cells + n) c (sketch_of cells (suc n) a) (own n (out n (omega arith) (omega arith))) (λ v o. apart a (suc n) (out_body n (size a) out) v o.even) w (opens_same ms w even)
-  apart (Watch a c) n out w even = watching_kept ms R push_on w (cells + n) c (sketch_of cells (suc n) a) (own n (out n (omega arith) (omega arith))) (λ v o. apart a (suc n) (out_body n (size a) out) v o.even) w (opens_same ms w even)
-  apart (Time a c) n out w even = timed_kept ms R w (cells + n) c (sketch_of cells (suc n) a) (own n (out n (omega arith) (omega arith))) (λ v o. apart a (suc n) (out_body n (size a) out) v o.even) w (opens_same ms w even)
+  apart (New cell a) n out w even = λ c t e. apart a (suc n) (out_body n (form_count a) out) (born w cell c t) (even_born w cell c t even)
+  apart (Hence a) n out w even = λ v o. apart a (suc n) (out_body n (form_count a) out) v o.even
+  apart (Next a) n out w even = λ v o. apart a (suc n) (out_body n (form_count a) out) v o.even
+  apart (Always a) n out w even = always_kept ms R w (sketch_of cells (suc n) a) (λ v o. apart a (suc n) (out_body n (form_count a) out) v o.even) w (opens_same ms w even)
+  apart (When c a) n out w even = when_kept ms R w (cells + n) c (sketch_of cells (suc n) a) (own n (out n (omega arith) (omega arith))) (λ v o. apart a (suc n) (out_body n (form_count a) out) v o.even) w (opens_same ms w even)
+  apart (Watch a c) n out w even = watching_kept ms R push_on w (cells + n) c (sketch_of cells (suc n) a) (own n (out n (omega arith) (omega arith))) (λ v o. apart a (suc n) (out_body n (form_count a) out) v o.even) w (opens_same ms w even)
+  apart (Time a c) n out w even = timed_kept ms R w (cells + n) c (sketch_of cells (suc n) a) (own n (out n (omega arith) (omega arith))) (λ v o. apart a (suc n) (out_body n (form_count a) out) v o.even) w (opens_same ms w even)
 
   -- what is to be shown of form m alone
   abbrev pub Holds : List ℕ → Tree → ℕ → Type 0
@@ -89,7 +89,7 @@ module _ (cells : ℕ) (ms : List ℕ) (floor m : ℕ) (x : Tree) (G : Way → T
   -- form m stands in the tree, with these local cells around it
   pub record Stands (locals : List ℕ) (t : Tree) (n : ℕ) : Type 0 where
     pub from : n ≤ m
-    pub to : m + size x ≤ n + size t
+    pub to : m + form_count x ≤ n + form_count t
     pub around : List ℕ
     pub scoped : (p : CoreProgram) → Scoped p locals t → Scoped p around x
     pub each : Holds around x m → Holds locals t n
@@ -98,7 +98,7 @@ module _ (cells : ℕ) (ms : List ℕ) (floor m : ℕ) (x : Tree) (G : Way → T
   at_root : (locals : List ℕ) (t : Tree) (n : ℕ) → part n t ≡ part m x → Stands locals t n
   at_root locals t n e =
       let number : n ≡ m = ap (λ (y : Part). y.number) e in
-      let long : size t ≡ size x = ap (λ (y : Part). size y.tree) e in
+      let long : form_count t ≡ form_count x = ap (λ (y : Part). form_count y.tree) e in
       record {
         from = omega arith;
         to = omega arith;
@@ -108,7 +108,7 @@ module _ (cells : ℕ) (ms : List ℕ) (floor m : ℕ) (x : Tree) (G : Way → T
       }
 
   -- it stands in the only part of the tree
-  one_body : (locals inner : List ℕ) (t a : Tree) (n : ℕ) → size t ≡ suc (size a) → ((p : CoreProgram) → Scoped p locals t → Scoped p inner a) → (Holds inner a (suc n) → Holds locals t n)
+  one_body : (locals inner : List ℕ) (t a : Tree) (n : ℕ) → form_count t ≡ suc (form_count a) → ((p : CoreProgram) → Scoped p locals t → Scoped p inner a) → (Holds inner a (suc n) → Holds locals t n)
       → Stands inner a (suc n) → Stands locals t n
   one_body locals inner t a n long scoped each s = let from = s.from in let to = s.to in record {
     from = omega arith;
@@ -127,13 +127,13 @@ module _ (cells : ℕ) (ms : List ℕ) (floor m : ℕ) (x : Tree) (G : Way → T
       go (inr c) = h c
 
   -- it stands in one part of a par, and the other part is apart
-  in_par : (locals : List ℕ) (l r : Tree) (n : ℕ) → Stands locals l (suc n) ⊎ Stands locals r (suc n + size l) → Stands locals (Par l r) n
+  in_par : (locals : List ℕ) (l r : Tree) (n : ℕ) → Stands locals l (suc n) ⊎ Stands locals r (suc n + form_count l) → Stands locals (Par l r) n
   in_par locals l r n (inl s) = let from = s.from in let to = s.to in record {
     from = omega arith;
     to = omega arith;
     around = s.around;
     scoped = λ p h. s.scoped p h.0;
-    each = λ h w v. (s.each h w v, apart r (suc n + size l) (λ form low high i. let top = i.1 in omega arith) w v.even);
+    each = λ h w v. (s.each h w v, apart r (suc n + form_count l) (λ form low high i. let top = i.1 in omega arith) w v.even);
   }
   in_par locals l r n (inr s) = let from = s.from in let to = s.to in record {
     from = omega arith;
@@ -157,7 +157,7 @@ module _ (cells : ℕ) (ms : List ℕ) (floor m : ℕ) (x : Tree) (G : Way → T
   stands locals (Tell b) n k = or_below locals (Tell b) n [] k (λ c. absurd (none_in (part m x) c))
   stands locals (Then b a) n k = or_below locals (Then b a) n (parts (suc n) a) k (λ c. one_body locals locals (Then b a) a n refl (λ p s. s.1) (λ h w v. h (asked w b) (valid_below ms floor locals w _ v)) (stands locals a (suc n) c))
   stands locals (Else b a) n k = or_below locals (Else b a) n (parts (suc n) a) k (λ c. one_body locals locals (Else b a) a n refl (λ p s. s.1) (λ h w v. h (denied w b) (valid_below ms floor locals w _ v)) (stands locals a (suc n) c))
-  stands locals (Par l r) n k = or_below locals (Par l r) n (parts (suc n) l ++ parts (suc n + size l) r) k (λ c. in_par locals l r n (⊎_elim (λ c. inl (stands locals l (suc n) c)) (λ c. inr (stands locals r (suc n + size l) c)) (Contains-append_cases (parts (suc n) l) (parts (suc n + size l) r) (part m x) c)))
+  stands locals (Par l r) n k = or_below locals (Par l r) n (parts (suc n) l ++ parts (suc n + form_count l) r) k (λ c. in_par locals l r n (⊎_elim (λ c. inl (stands locals l (suc n) c)) (λ c. inr (stands locals r (suc n + form_count l) c)) (Contains-append_cases (parts (suc n) l) (parts (suc n + form_count l) r) (part m x) c)))
   stands locals (New cell a) n k = or_below locals (New cell a) n (parts (suc n) a) k (λ c. one_body locals (cell ∷ locals) (New cell a) a n refl (λ p s. s) (λ h w v number t e. h (born w cell number t) (valid_born ms floor locals w cell number t e v)) (stands (cell ∷ locals) a (suc n) c))
   stands locals (Hence a) n k = or_below locals (Hence a) n (parts (suc n) a) k (λ c. one_body locals locals (Hence a) a n refl (λ p s. s) (λ h w v. ever locals a (suc n) w h v) (stands locals a (suc n) c))
   stands locals (Next a) n k = or_below locals (Next a) n (parts (suc n) a) k (λ c. one_body locals locals (Next a) a n refl (λ p s. s) (λ h w v. ever locals a (suc n) w h v) (stands locals a (suc n) c))

@@ -8,7 +8,7 @@ use Rattle.agent_core.specs.Facts.{IsAmong, IsConstraint}
 use Rattle.agent_core.specs.Strata.{Each}
 use Rattle.agent_core.proofs.Standing.{stands-head}
 use Rattle.agent_laws.proofs.Eachs.{Each-parts}
-use Rattle.tdcc_reader.specs.Trees.{Tree, Skip, Tell, Then, Else, Par, New, Hence, Next, Always, When, Watch, Time, size}
+use Rattle.tdcc_reader.specs.Trees.{Tree, Skip, Tell, Then, Else, Par, New, Hence, Next, Always, When, Watch, Time, form_count}
 use Rattle.surface_laws.specs.Surfaces.{Scoped, bare, new_cells}
 use Rattle.expansion_laws.specs.Numbering.{Placed, placed}
 use Rattle.expansion_laws.specs.Table.{watching}
@@ -23,15 +23,15 @@ use Rattle.expansion_laws.proofs.Spots.{Trail, marks_of, Spot, under, inside, be
 -- the trees that the free forms begin lie within the tree
 module _ (m : ℕ) (x : Tree) where
   abbrev Lies : Tree → ℕ → Type 0
-  Lies t n = (n ≤ m) × (m + size x ≤ n + size t)
+  Lies t n = (n ≤ m) × (m + form_count x ≤ n + form_count t)
 
   lies_here : (t : Tree) (n : ℕ) → part n t ≡ part m x → Lies t n
   lies_here t n e =
       let number : n ≡ m = ap (λ (y : Part). y.number) e in
-      let long : size t ≡ size x = ap (λ (y : Part). size y.tree) e in
+      let long : form_count t ≡ form_count x = ap (λ (y : Part). form_count y.tree) e in
       (omega arith, omega arith)
 
-  lies_below : (t a : Tree) (n : ℕ) → size t ≡ suc (size a) → (Contains (free_parts (suc n) a) (part m x) → Lies a (suc n)) → Contains (part n t ∷ free_parts (suc n) a) (part m x) → Lies t n
+  lies_below : (t a : Tree) (n : ℕ) → form_count t ≡ suc (form_count a) → (Contains (free_parts (suc n) a) (part m x) → Lies a (suc n)) → Contains (part n t ∷ free_parts (suc n) a) (part m x) → Lies t n
   lies_below t a n long rest c = go (first_or (part n t) (part m x) (free_parts (suc n) a) c)
     where
       go : (part n t ≡ part m x) ⊎ Contains (free_parts (suc n) a) (part m x) → Lies t n
@@ -50,17 +50,17 @@ module _ (m : ℕ) (x : Tree) where
   lies_within (Next a) n c = lies_below (Next a) a n refl (lies_within a (suc n)) c
   lies_within (Always a) n c = lies_below (Always a) a n refl (lies_within a (suc n)) c
   lies_within (When b a) n c = lies_below (When b a) a n refl (lies_within a (suc n)) c
-  lies_within (Par l r) n c = go (lies_within l (suc n)) (lies_within r (suc n + size l)) (first_or (part n (Par l r)) (part m x) (free_parts (suc n) l ++ free_parts (suc n + size l) r) c)
+  lies_within (Par l r) n c = go (lies_within l (suc n)) (lies_within r (suc n + form_count l)) (first_or (part n (Par l r)) (part m x) (free_parts (suc n) l ++ free_parts (suc n + form_count l) r) c)
     where
-      either : (Contains (free_parts (suc n) l) (part m x) → Lies l (suc n)) → (Contains (free_parts (suc n + size l) r) (part m x) → Lies r (suc n + size l))
-          → Contains (free_parts (suc n) l) (part m x) ⊎ Contains (free_parts (suc n + size l) r) (part m x) → Lies (Par l r) n
+      either : (Contains (free_parts (suc n) l) (part m x) → Lies l (suc n)) → (Contains (free_parts (suc n + form_count l) r) (part m x) → Lies r (suc n + form_count l))
+          → Contains (free_parts (suc n) l) (part m x) ⊎ Contains (free_parts (suc n + form_count l) r) (part m x) → Lies (Par l r) n
       either f g (inl k) = let h = f k in (omega (arith, h.0), omega (arith, h.1))
       either f g (inr k) = let h = g k in (omega (arith, h.0), omega (arith, h.1))
 
-      go : (Contains (free_parts (suc n) l) (part m x) → Lies l (suc n)) → (Contains (free_parts (suc n + size l) r) (part m x) → Lies r (suc n + size l))
-          → (part n (Par l r) ≡ part m x) ⊎ Contains (free_parts (suc n) l ++ free_parts (suc n + size l) r) (part m x) → Lies (Par l r) n
+      go : (Contains (free_parts (suc n) l) (part m x) → Lies l (suc n)) → (Contains (free_parts (suc n + form_count l) r) (part m x) → Lies r (suc n + form_count l))
+          → (part n (Par l r) ≡ part m x) ⊎ Contains (free_parts (suc n) l ++ free_parts (suc n + form_count l) r) (part m x) → Lies (Par l r) n
       go f g (inl e) = lies_here (Par l r) n e
-      go f g (inr k) = either f g (Contains-append_cases (free_parts (suc n) l) (free_parts (suc n + size l) r) (part m x) k)
+      go f g (inr k) = either f g (Contains-append_cases (free_parts (suc n) l) (free_parts (suc n + form_count l) r) (part m x) k)
 
 -- each is below this number
 abbrev pub AreBelow : ℕ → List ℕ → Type 0
@@ -102,7 +102,7 @@ module _ (x : Trail) (y : Aim x) where
     pub below : AreBelow cells (new_cells y.body)
 
   -- a tree that does not have the watching does not lead to the leaf
-  apart_not : (t : Tree) (n : ℕ) (r : Spot) → ((f : ℕ) → n ≤ f → f < n + size t → In f → ⊥) → Leading r t n → ⊥
+  apart_not : (t : Tree) (n : ℕ) (r : Spot) → ((f : ℕ) → n ≤ f → f < n + form_count t → In f → ⊥) → Leading r t n → ⊥
   apart_not t n r out h = not_at x In y.form y.stems y.inside (sketch_of cells n t) r [] h (apart cells (marks_of x) x.surface.declared y.number (Watch y.body y.stop) Nowhere never t n out (way r.scope r.births []) h.even)
 
   -- wherever a walk stands at the sketch of the tree, it goes on to a copy
@@ -174,19 +174,19 @@ module _ (x : Trail) (y : Aim x) where
       find b (suc n) deeper locals to.0 to.1 scoped.1
       (subst (Seen locals) (sym to.2) (seen_more locals r.scope (cells + n) r.cell (stands-head h.part.marked) seen)) below
   find (Par left right) n k locals r h scoped seen below =
-      let deeper = inner (Par left right) n (free_parts (suc n) left ++ free_parts (suc n + size left) right) (λ e. cc) k in
+      let deeper = inner (Par left right) n (free_parts (suc n) left ++ free_parts (suc n + form_count left) right) (λ e. cc) k in
       let parts = Each-parts (λ (c : ℕ). c < cells) (new_cells left) (new_cells right) below in
-      go (λ c s at. find left (suc n) c locals s at scoped.0) (λ c s at. find right (suc n + size left) c locals s at scoped.1) parts.0 parts.1
-      (Contains-append_cases (free_parts (suc n) left) (free_parts (suc n + size left) right) sought deeper) (at_par x r _ _ _ h)
+      go (λ c s at. find left (suc n) c locals s at scoped.0) (λ c s at. find right (suc n + form_count left) c locals s at scoped.1) parts.0 parts.1
+      (Contains-append_cases (free_parts (suc n) left) (free_parts (suc n + form_count left) right) sought deeper) (at_par x r _ _ _ h)
     where
-      go : Finds_part locals left (suc n) → Finds_part locals right (suc n + size left) → AreBelow cells (new_cells left) → AreBelow cells (new_cells right)
-          → Contains (free_parts (suc n) left) sought ⊎ Contains (free_parts (suc n + size left) right) sought
-          → Leading (under r) left (suc n) ⊎ Leading (beside r (sketch_of cells (suc n) left)) right (suc n + size left) → Found
+      go : Finds_part locals left (suc n) → Finds_part locals right (suc n + form_count left) → AreBelow cells (new_cells left) → AreBelow cells (new_cells right)
+          → Contains (free_parts (suc n) left) sought ⊎ Contains (free_parts (suc n + form_count left) right) sought
+          → Leading (under r) left (suc n) ⊎ Leading (beside r (sketch_of cells (suc n) left)) right (suc n + form_count left) → Found
       go f g bl br (inl c) (inl at) = f c (under r) at seen bl
       go f g bl br (inr c) (inr at) = g c (beside r (sketch_of cells (suc n) left)) at seen br
       go f g bl br (inl c) (inr at) =
           let lies = lies_within y.number (Watch y.body y.stop) left (suc n) c in
-          absurd (apart_not right (suc n + size left) (beside r (sketch_of cells (suc n) left)) (λ form low high i. omega (arith, lies.1, i.1)) at)
+          absurd (apart_not right (suc n + form_count left) (beside r (sketch_of cells (suc n) left)) (λ form low high i. omega (arith, lies.1, i.1)) at)
       go f g bl br (inr c) (inl at) =
-          let lies = lies_within y.number (Watch y.body y.stop) right (suc n + size left) c in
+          let lies = lies_within y.number (Watch y.body y.stop) right (suc n + form_count left) c in
           absurd (apart_not left (suc n) (under r) (λ form low high i. omega (arith, lies.0, i.0)) at)

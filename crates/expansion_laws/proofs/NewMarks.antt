@@ -4,7 +4,7 @@ use Rattle.agent_core.specs.Agents.{Constraint}
 use Rattle.agent_core.specs.Strata.{Each}
 use Rattle.agent_laws.proofs.Eachs.{Each-append, Each-parts}
 use Rattle.tdcc_reader.specs.Trees as tree
-use Rattle.tdcc_reader.specs.Trees.{Tree, size}
+use Rattle.tdcc_reader.specs.Trees.{Tree, form_count}
 use Rattle.surface_laws.specs.Surfaces.{new_cells}
 use Rattle.expansion_laws.specs.Sketches.{Sketch, Skip, Tell, Then, Else, Par, New, Hence, Next, marks}
 use Rattle.expansion_laws.specs.Table.{on, always, when, guarded, clocked}
@@ -47,9 +47,9 @@ module _ (P : ℕ → Type 0) where
   sketch_marks cells (tree.Else c a) n hidden h = sketch_marks cells a (suc n) (λ m le. hidden m (omega arith)) h
   sketch_marks cells (tree.Par l r) n hidden h =
       let parts = Each-parts P (new_cells l) (new_cells r) h in
-      Each-append P (marks (sketch_of cells (suc n) l)) (marks (sketch_of cells (suc n + size l) r))
+      Each-append P (marks (sketch_of cells (suc n) l)) (marks (sketch_of cells (suc n + form_count l) r))
       (sketch_marks cells l (suc n) (λ m le. hidden m (omega arith)) parts.0)
-      (sketch_marks cells r (suc n + size l) (λ m le. hidden m (omega arith)) parts.1)
+      (sketch_marks cells r (suc n + form_count l) (λ m le. hidden m (omega arith)) parts.1)
   sketch_marks cells (tree.New cell a) n hidden h = (h.0, sketch_marks cells a (suc n) (λ m le. hidden m (omega arith)) h.1)
   sketch_marks cells (tree.Hence a) n hidden h = sketch_marks cells a (suc n) (λ m le. hidden m (omega arith)) h
   sketch_marks cells (tree.Next a) n hidden h = sketch_marks cells a (suc n) (λ m le. hidden m (omega arith)) h

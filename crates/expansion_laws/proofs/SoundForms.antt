@@ -8,7 +8,7 @@ use Rattle.agent_core.specs.Agents.{Constraint}
 use Rattle.agent_core.specs.Facts.{IsAmong, IsInScope, AreInScope, IsConstraint}
 use Rattle.agent_core.specs.Strata.{Each}
 use Rattle.tdcc_reader.specs.Surfaces.{SurfaceProgram}
-use Rattle.tdcc_reader.specs.Trees.{Tree, size}
+use Rattle.tdcc_reader.specs.Trees.{Tree, form_count}
 use Rattle.tdcc_reader.specs.Trees as tree
 use Rattle.surface_laws.specs.Surfaces.{bare, Scoped, IsFresh, AreFresh}
 use Rattle.expansion_laws.specs.Sketches.{Sketch, Skip, Tell, Then, Else, Par, New, Hence, Next}
@@ -104,7 +104,7 @@ module _ (s : SurfaceProgram) where
   sketch_sound (tree.Tell c) m locals around w scoped fresh = constraint_meant locals around c w.keeps scoped
   sketch_sound (tree.Then c a) m locals around w scoped fresh = (constraint_meant locals around c w.keeps scoped.0, sketch_sound a (suc m) locals around w scoped.1 fresh)
   sketch_sound (tree.Else c a) m locals around w scoped fresh = (constraint_meant locals around c w.keeps scoped.0, sketch_sound a (suc m) locals around w scoped.1 fresh)
-  sketch_sound (tree.Par l r) m locals around w scoped fresh = (sketch_sound l (suc m) locals around w scoped.0 fresh.0, sketch_sound r (suc m + size l) locals around w scoped.1 fresh.1)
+  sketch_sound (tree.Par l r) m locals around w scoped fresh = (sketch_sound l (suc m) locals around w scoped.0 fresh.0, sketch_sound r (suc m + form_count l) locals around w scoped.1 fresh.1)
   sketch_sound (tree.New cell a) m locals around w scoped fresh = (
     cell_new locals around cell w fresh.0,
     sketch_sound a (suc m) (cell ∷ locals) (cell ∷ around) (widens_under s.cells s.declared cell locals around w) scoped fresh.1,

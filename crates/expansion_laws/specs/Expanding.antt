@@ -1,7 +1,7 @@
 -- The sketch of a tree: each core form stands for itself, and each derived form for what the table says, inner forms first. The
 -- form with number m hides the signal with mark cells + m, which is the mark of no cell of the surface. This project's own.
 use Rattle.std.specs.Prelude.{ℕ, suc, ◌+◌, Some}
-use Rattle.tdcc_reader.specs.Trees.{Tree, size}
+use Rattle.tdcc_reader.specs.Trees.{Tree, form_count}
 use Rattle.tdcc_reader.specs.Trees as tree
 use Rattle.expansion_laws.specs.Sketches.{Sketch, Skip, Tell, Then, Else, Par, New, Hence, Next}
 use Rattle.expansion_laws.specs.Table.{always, when, watching, timed}
@@ -12,7 +12,7 @@ sketch_of cells m tree.Skip = Skip (Some m)
 sketch_of cells m (tree.Tell c) = Tell (Some m) c
 sketch_of cells m (tree.Then c a) = Then (Some m) c (sketch_of cells (suc m) a)
 sketch_of cells m (tree.Else c a) = Else (Some m) c (sketch_of cells (suc m) a)
-sketch_of cells m (tree.Par l r) = Par (Some m) (sketch_of cells (suc m) l) (sketch_of cells (suc m + size l) r)
+sketch_of cells m (tree.Par l r) = Par (Some m) (sketch_of cells (suc m) l) (sketch_of cells (suc m + form_count l) r)
 sketch_of cells m (tree.New cell a) = New (Some m) cell (sketch_of cells (suc m) a)
 sketch_of cells m (tree.Hence a) = Hence (Some m) (sketch_of cells (suc m) a)
 sketch_of cells m (tree.Next a) = Next (Some m) (sketch_of cells (suc m) a)

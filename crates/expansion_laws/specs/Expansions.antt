@@ -3,7 +3,7 @@ use Rattle.std.specs.Prelude.{◌≡◌, [], ◌++◌, length, take}
 use Rattle.agent_core.specs.Programs.{CoreProgram}
 use Rattle.agent_core.specs.Listing as core
 use Rattle.tdcc_reader.specs.Surfaces.{SurfaceProgram}
-use Rattle.tdcc_reader.specs.Trees.{Tree, listing}
+use Rattle.tdcc_reader.specs.Trees.{Tree, form_listing}
 use Rattle.expansion_laws.specs.Sketches.{Sketch, marks}
 use Rattle.expansion_laws.specs.Expanding.{sketch_of}
 use Rattle.expansion_laws.specs.Numbering.{agent_of, cells_from}
@@ -11,7 +11,7 @@ use Rattle.expansion_laws.specs.Numbering.{agent_of, cells_from}
 -- this is the sketch of the surface
 pub record IsSketchOf (s : SurfaceProgram) (d : Sketch) : Type 0 where
   pub tree : Tree
-  pub written : s.forms ≡ listing 0 tree
+  pub written : s.forms ≡ form_listing 0 tree
   pub sketched : d ≡ sketch_of (length s.cells) 0 tree
 
 -- this is the core program of the sketch

@@ -7,7 +7,7 @@ use Rattle.agent_core.specs.Programs.{CoreProgram}
 use Rattle.agent_core.specs.Listing as core
 use Rattle.agent_core.specs.Facts.{count_up}
 use Rattle.tdcc_reader.specs.Surfaces.{SurfaceProgram}
-use Rattle.tdcc_reader.specs.Trees.{Tree, Skip, Tell, Then, Else, Par, New, Hence, Next, Always, When, Watch, Time, size}
+use Rattle.tdcc_reader.specs.Trees.{Tree, Skip, Tell, Then, Else, Par, New, Hence, Next, Always, When, Watch, Time, form_count}
 use Rattle.expansion_laws.specs.Sketches.{Sketch, marks}
 
 -- a form of a tree: its number, and the tree that begins there
@@ -24,7 +24,7 @@ parts n Skip = part n Skip ∷ []
 parts n (Tell c) = part n (Tell c) ∷ []
 parts n (Then c a) = part n (Then c a) ∷ parts (suc n) a
 parts n (Else c a) = part n (Else c a) ∷ parts (suc n) a
-parts n (Par l r) = part n (Par l r) ∷ (parts (suc n) l ++ parts (suc n + size l) r)
+parts n (Par l r) = part n (Par l r) ∷ (parts (suc n) l ++ parts (suc n + form_count l) r)
 parts n (New cell a) = part n (New cell a) ∷ parts (suc n) a
 parts n (Hence a) = part n (Hence a) ∷ parts (suc n) a
 parts n (Next a) = part n (Next a) ∷ parts (suc n) a
@@ -39,7 +39,7 @@ free_parts n Skip = part n Skip ∷ []
 free_parts n (Tell c) = part n (Tell c) ∷ []
 free_parts n (Then c a) = part n (Then c a) ∷ free_parts (suc n) a
 free_parts n (Else c a) = part n (Else c a) ∷ free_parts (suc n) a
-free_parts n (Par l r) = part n (Par l r) ∷ (free_parts (suc n) l ++ free_parts (suc n + size l) r)
+free_parts n (Par l r) = part n (Par l r) ∷ (free_parts (suc n) l ++ free_parts (suc n + form_count l) r)
 free_parts n (New cell a) = part n (New cell a) ∷ free_parts (suc n) a
 free_parts n (Hence a) = part n (Hence a) ∷ free_parts (suc n) a
 free_parts n (Next a) = part n (Next a) ∷ free_parts (suc n) a

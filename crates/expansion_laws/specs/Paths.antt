@@ -14,7 +14,7 @@ use Rattle.agent_core.specs.Rests.{entails}
 use Rattle.agent_core.specs.Closures.{roots}
 use Rattle.agent_core.specs.Leaves.{Leaf, Asks, Denies, leaves, runs}
 use Rattle.tdcc_reader.specs.Surfaces.{SurfaceProgram}
-use Rattle.tdcc_reader.specs.Trees.{Tree, Tell, Watch, Time, size}
+use Rattle.tdcc_reader.specs.Trees.{Tree, Tell, Watch, Time, form_count}
 use Rattle.expansion_laws.specs.Sketches.{Sketch, origins}
 use Rattle.expansion_laws.specs.Table.{on}
 use Rattle.expansion_laws.specs.Origins.{part, parts, free_parts, cell_marks, copied, IsAround, AreAround}
@@ -58,7 +58,7 @@ pub record IsTellInside (s : SurfaceProgram) (d : Sketch) (p : CoreProgram) (z :
   pub form : ℕ
   pub stems : StemsFrom s d l form
   pub behind : m < form
-  pub before : form < suc m + size a
+  pub before : form < suc m + form_count a
 
 -- Each tell that stems from a form inside a watching waits, under its own births, for the absence of the hidden signal of the
 -- copy of the watching that stands around it.

@@ -5,7 +5,7 @@ use Rattle.program_lexemes.specs.declared.bytes.TextForm.TheVariants as form
 use Rattle.program_grammar.specs.Spelling.{agent, program}
 use Rattle.agent_core.specs.Strata.{Each}
 use Rattle.tdcc_reader.specs.declared.dialect.Dialect.TheVariants.{Program}
-use Rattle.tdcc_reader.specs.Sayings.{terms_of}
+use Rattle.tdcc_reader.specs.LexemeTerms.{terms_of}
 use Rattle.tdcc_reader.specs.Refusals.{Accepts}
 use Rattle.tdcc_reader.specs.Texts.{ReadsAs}
 use Rattle.trace_text.specs.Generated.{joined, signals_text, numbers_text, units, program_text}

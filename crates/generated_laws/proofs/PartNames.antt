@@ -6,7 +6,7 @@ use Rattle.token_system.specs.declared.cell.Kind.TheVariants.{Signal, Number}
 use Rattle.agent_core.specs.Strata.{Each}
 use Rattle.tdcc_reader.specs.Widths.{unit_width, names_width, items_width}
 use Rattle.tdcc_reader.specs.Limits.{first}
-use Rattle.tdcc_reader.specs.Scope.{Known, kind_of, unknown_fault, signal_fault, number_fault, signal_use, number_use, unit_fault, agent_fault, names_known, items_known, names_fault, items_fault, program_fault}
+use Rattle.tdcc_reader.specs.Scope.{Known, kind_in_scope, unknown_fault, signal_fault, number_fault, signal_use, number_use, unit_fault, agent_fault, names_known, items_known, names_fault, items_fault, program_fault}
 use Rattle.trace_text.specs.Generated.{signal_name, number_name}
 use Rattle.core_text_laws.proofs.CoreLimits.{none_both}
 use Rattle.generated_laws.specs.GeneratedParts.{Part, Follows, Defaults, Delays, Starts, Ends, Bounds}
@@ -38,13 +38,13 @@ number_kind (Some Number) e = refl
 number_kind (Some Signal) e = cc
 number_kind None e = cc
 
-signal_known : (j : ℕ) → j < 32 → kind_of scope (signal_name j) ≡ Some Signal
+signal_known : (j : ℕ) → j < 32 → kind_in_scope scope (signal_name j) ≡ Some Signal
 unfolding digits
-signal_known j few = signal_kind (kind_of scope (signal_name j)) (row_passes (λ k. is_signal (kind_of scope (signal_name k))) 0 32 refl j (omega arith) (omega arith))
+signal_known j few = signal_kind (kind_in_scope scope (signal_name j)) (row_passes (λ k. is_signal (kind_in_scope scope (signal_name k))) 0 32 refl j (omega arith) (omega arith))
 
-number_known : (i : ℕ) → i < 8 → kind_of scope (number_name i) ≡ Some Number
+number_known : (i : ℕ) → i < 8 → kind_in_scope scope (number_name i) ≡ Some Number
 unfolding digits
-number_known i few = number_kind (kind_of scope (number_name i)) (row_passes (λ k. is_number (kind_of scope (number_name k))) 0 8 refl i (omega arith) (omega arith))
+number_known i few = number_kind (kind_in_scope scope (number_name i)) (row_passes (λ k. is_number (kind_in_scope scope (number_name k))) 0 8 refl i (omega arith) (omega arith))
 
 -- PARTS
 

@@ -27,7 +27,7 @@ part_news (Bounds i x k) m n = (tt, tt)
 parts_news : (us : List Part) (m n : ℕ) → NewsFirst false (agent_of [] n (parts_sketch m us))
 parts_news [] m n = tt
 parts_news (u ∷ []) m n = part_news u m n
-parts_news (u ∷ v ∷ vs) m n = (part_news u (suc m) n, parts_news (v ∷ vs) (suc m + tree.size (part_tree u)) (n + length (marks (part_sketch (suc m) u))))
+parts_news (u ∷ v ∷ vs) m n = (part_news u (suc m) n, parts_news (v ∷ vs) (suc m + tree.form_count (part_tree u)) (n + length (marks (part_sketch (suc m) u))))
 
 -- An instant of the core program of the surface has at most as many leaves as the program has nodes.
 pub few : (n : ℕ) (p : CoreProgram) (outs : List Valuation) → IsExpansion (surface n) p → length (leaves p (roots p outs) (length outs)) ≤ length p.nodes

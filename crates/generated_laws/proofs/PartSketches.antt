@@ -29,7 +29,7 @@ pub parts_small : (u : Part) (us : List Part) (m : ℕ) → size (parts_sketch m
 parts_small u [] m = part_small u m
 parts_small u (v ∷ vs) m =
     let left = part_small u (suc m) in
-    let right = parts_small v vs (suc m + tree.size (part_tree u)) in
+    let right = parts_small v vs (suc m + tree.form_count (part_tree u)) in
     omega arith
 
 -- HIDDEN CELLS
@@ -49,7 +49,7 @@ parts_levels_many (u ∷ []) m = part_levels_many u m ∙ more (part_levels u)
     more : (xs : List ℕ) → length xs ≡ length (xs ++ [])
     more xs = omega (arith, length-append xs [])
 parts_levels_many (u ∷ v ∷ vs) m =
-    let next : ℕ = suc m + tree.size (part_tree u) in
+    let next : ℕ = suc m + tree.form_count (part_tree u) in
     let left = part_levels_many u (suc m) in
     let right = parts_levels_many (v ∷ vs) next in
     omega (arith, length-append (marks (part_sketch (suc m) u)) (marks (parts_sketch next (v ∷ vs))), length-append (part_levels u) (flat_map part_levels (v ∷ vs)))

@@ -116,7 +116,7 @@ module _ (table : List ℕ) (signals : (j : ℕ) → j < 32 → slice_index tabl
       let many = part_levels_many u (suc m) in
       let left : Agent = agent_of [] n (part_sketch (suc m) u) in
       let next : ℕ = n + length (marks (part_sketch (suc m) u)) in
-      let after : ℕ = suc m + tree.size (part_tree u) in
+      let after : ℕ = suc m + tree.form_count (part_tree u) in
       each_append (Meets table) (agent_edges (suc k) left []) (agent_edges (suc k + core.size left) (agent_of [] next (parts_sketch after (v ∷ vs))) [])
       (part_met u all.0 front rest e (suc m) n (suc k) long)
       (parts_met (v ∷ vs) all.1 (front ++ part_levels u) (e ∙ sym (append_assoc front (part_levels u) rest)) after next (suc k + core.size left) (omega (arith, length-append front (part_levels u))))

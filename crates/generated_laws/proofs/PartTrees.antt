@@ -5,8 +5,8 @@ use Rattle.std.specs.Fmt.{digits}
 use Rattle.std.proofs.lemmas.Bool.{eqb-true}
 use Rattle.token_system.specs.declared.cell.Token.TheVariants as token
 use Rattle.agent_core.specs.Strata.{Each}
-use Rattle.tdcc_reader.specs.Surfaces.{Placed, Declared, cell_of, cell_view, unit_cells, unit_tree, agent_tree, names_cells, items_cells, names_scope, items_scope, IsSurfaceOf}
-use Rattle.tdcc_reader.specs.Trees.{Tree, Tell, Then, Par, Always, listing}
+use Rattle.tdcc_reader.specs.Surfaces.{Placed, Declared, cell_in_scope, cell_view, unit_cells, unit_tree, agent_tree, names_cells, items_cells, names_scope, items_scope, IsSurfaceOf}
+use Rattle.tdcc_reader.specs.Trees.{Tree, Tell, Then, Par, Always, form_listing}
 use Rattle.trace_text.specs.Generated.{signal_name, number_name}
 use Rattle.generated_laws.specs.GeneratedParts.{Part, Follows, Defaults, Delays, Starts, Ends, Bounds, parts}
 use Rattle.generated_laws.specs.GeneratedSurfaces.{cells, on, part_tree, par_of, surface}
@@ -18,19 +18,19 @@ use Rattle.generated_laws.proofs.PartPhrases.{part_phrase, agent_phrase, signals
 abbrev scope : List Placed
 scope = items_scope numbers (names_scope signals [] 0) 32
 
-signal_placed : (j : ℕ) → j < 32 → cell_of scope (signal_name j) ≡ j
+signal_placed : (j : ℕ) → j < 32 → cell_in_scope scope (signal_name j) ≡ j
 unfolding digits
-signal_placed j few = eqb-true (cell_of scope (signal_name j)) j (row_passes (λ k. nat_eq (cell_of scope (signal_name k)) k) 0 32 refl j (omega arith) (omega arith))
+signal_placed j few = eqb-true (cell_in_scope scope (signal_name j)) j (row_passes (λ k. nat_eq (cell_in_scope scope (signal_name k)) k) 0 32 refl j (omega arith) (omega arith))
 
-number_placed : (i : ℕ) → i < 8 → cell_of scope (number_name i) ≡ 32 + i
+number_placed : (i : ℕ) → i < 8 → cell_in_scope scope (number_name i) ≡ 32 + i
 unfolding digits
-number_placed i few = eqb-true (cell_of scope (number_name i)) (32 + i) (row_passes (λ k. nat_eq (cell_of scope (number_name k)) (32 + k)) 0 8 refl i (omega arith) (omega arith))
+number_placed i few = eqb-true (cell_in_scope scope (number_name i)) (32 + i) (row_passes (λ k. nat_eq (cell_in_scope scope (number_name k)) (32 + k)) 0 8 refl i (omega arith) (omega arith))
 
 -- TREES
 
 -- what is planted on the cells of names
-two_planted : (f : ℕ → ℕ → Tree) (i j : ℕ) → j < 32 → i < j → f (cell_of scope (signal_name i)) (cell_of scope (signal_name j)) ≡ f i j
-two_planted f i j few less = ap (λ (x : ℕ). f x (cell_of scope (signal_name j))) (signal_placed i (omega arith)) ∙ ap (f i) (signal_placed j few)
+two_planted : (f : ℕ → ℕ → Tree) (i j : ℕ) → j < 32 → i < j → f (cell_in_scope scope (signal_name i)) (cell_in_scope scope (signal_name j)) ≡ f i j
+two_planted f i j few less = ap (λ (x : ℕ). f x (cell_in_scope scope (signal_name j))) (signal_placed i (omega arith)) ∙ ap (f i) (signal_placed j few)
 
 part_planted : (u : Part) → IsPart u → (n : ℕ) → unit_tree (part_phrase u) scope n ≡ part_tree u
 part_planted (Follows i j) (few, less) n = two_planted (λ x y. part_tree (Follows x y)) i j few less
@@ -38,9 +38,9 @@ part_planted (Defaults i j) (few, less) n = two_planted (λ x y. part_tree (Defa
 part_planted (Delays i j) (few, less) n = two_planted (λ x y. part_tree (Delays x y)) i j few less
 part_planted (Starts i j) (few, less) n = two_planted (λ x y. part_tree (Starts x y)) i j few less
 part_planted (Ends i j h) (few, less, stop) n =
-    two_planted (λ x y. part_tree (Ends x y (cell_of scope (signal_name h)))) i j few less ∙ ap (λ (x : ℕ). part_tree (Ends i j x)) (signal_placed h (omega arith))
+    two_planted (λ x y. part_tree (Ends x y (cell_in_scope scope (signal_name h)))) i j few less ∙ ap (λ (x : ℕ). part_tree (Ends i j x)) (signal_placed h (omega arith))
 part_planted (Bounds i m k) (fi, fm, fk) n =
-    ap (λ (x : ℕ). Always (Then (on x) (Tell ((cell_of scope (number_name m), token.AtLeast (pos k)) ∷ [])))) (signal_placed i fi)
+    ap (λ (x : ℕ). Always (Then (on x) (Tell ((cell_in_scope scope (number_name m), token.AtLeast (pos k)) ∷ [])))) (signal_placed i fi)
     ∙ ap (λ (x : ℕ). Always (Then (on i) (Tell ((x, token.AtLeast (pos k)) ∷ [])))) (number_placed m fm)
 
 agent_planted : (us : List Part) → Each IsPart us → (n : ℕ) → agent_tree (agent_phrase us) scope n ≡ par_of (map part_tree us)
@@ -61,5 +61,5 @@ pub surface_seen : (n : ℕ) → IsSurfaceOf (program_phrase (parts n)) (surface
 surface_seen n = record {
   cells = cells_seen ∙ ap (λ (cs : List Declared). names_cells signals ++ (items_cells numbers ++ cs)) (sym (agent_bare (parts n)));
   declared = refl;
-  forms = ap (listing 0) (sym (agent_planted (parts n) (parts_are n) 40));
+  forms = ap (form_listing 0) (sym (agent_planted (parts n) (parts_are n) 40));
 }

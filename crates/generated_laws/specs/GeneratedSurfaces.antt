@@ -5,7 +5,7 @@ use Rattle.token_system.specs.declared.cell.Kind.TheVariants as kind
 use Rattle.token_system.specs.declared.cell.Token.TheVariants as token
 use Rattle.agent_core.specs.declared.node.CellDecl.{CellDecl}
 use Rattle.tdcc_reader.specs.Surfaces.{SurfaceProgram}
-use Rattle.tdcc_reader.specs.Trees.{Tree, Skip, Tell, Then, Else, Par, Next, Always, When, Watch, listing}
+use Rattle.tdcc_reader.specs.Trees.{Tree, Skip, Tell, Then, Else, Par, Next, Always, When, Watch, form_listing}
 use Rattle.agent_core.specs.Agents.{Constraint}
 use Rattle.trace_text.specs.Generated.{signal_name, number_name}
 use Rattle.generated_laws.specs.GeneratedParts.{Part, Follows, Defaults, Delays, Starts, Ends, Bounds, parts}
@@ -53,4 +53,4 @@ abbrev pub tree : ℕ → Tree
 tree n = par_of (map part_tree (parts n))
 
 abbrev pub surface : ℕ → SurfaceProgram
-surface n = record { cells = cells; declared = 40; forms = listing 0 (tree n) }
+surface n = record { cells = cells; declared = 40; forms = form_listing 0 (tree n) }

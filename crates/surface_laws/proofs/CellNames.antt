@@ -7,14 +7,14 @@ use Rattle.program_lexemes.specs.declared.bytes.TextForm.{TextForm}
 use Rattle.program_grammar.specs.Phrases.{UnitPhrase, Tell, Braces, IfThen, IfElse, LocalSignal, LocalInt, AgentPhrase, Only, Par, NamesPhrase, LastName, MoreName, ItemsPhrase, LastItem, MoreItem, ProgramPhrase, Runs, Signals, Ints}
 use Rattle.program_grammar.specs.Phrases as phrase
 use Rattle.core_text.specs.GoodNames.{IsName}
-use Rattle.tdcc_reader.specs.Surfaces.{Declared, declared, signal, number, unit_cells, agent_cells, names_cells, items_cells, program_cells}
+use Rattle.tdcc_reader.specs.Surfaces.{Declared, declared, declared_signal, declared_number, unit_cells, agent_cells, names_cells, items_cells, program_cells}
 use Rattle.surface_laws.proofs.FitPhrases.{ItemFit, UnitFit, AgentFit, NamesFit, ItemsFit, ProgramFit}
 
--- The cell of a number has its name.
-pub number_name : (x : List ℕ) (l h : ℤ) → (number x l h).name ≡ x
+-- The cell of a declared_number has its name.
+pub number_name : (x : List ℕ) (l h : ℤ) → (declared_number x l h).name ≡ x
 number_name x l h = go (is_cell kind.Number l h)
   where
-    go : (b : Bool) → (if b then declared x kind.Number l h else signal x).name ≡ x
+    go : (b : Bool) → (if b then declared x kind.Number l h else declared_signal x).name ≡ x
     go true = refl
     go false = refl
 
@@ -28,7 +28,7 @@ module _ (form : TextForm) where
   named_append [] ys a b = b
   named_append (x ∷ xs) ys (h, a) b = (h, named_append xs ys a b)
 
-  number_named : (x : List ℕ) (l h : ℤ) → ItemFit form x l h → IsName form (number x l h).name
+  number_named : (x : List ℕ) (l h : ℤ) → ItemFit form x l h → IsName form (declared_number x l h).name
   number_named x l h fit = subst (IsName form) (sym (number_name x l h)) fit.named
 
   mutual

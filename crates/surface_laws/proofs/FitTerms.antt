@@ -26,7 +26,7 @@ use Rattle.token_system.specs.Domain.{is_bound}
 use Rattle.core_text.specs.GoodNames.{IsName}
 use Rattle.tdcc_reader.specs.declared.dialect.Dialect.{Dialect}
 use Rattle.tdcc_reader.specs.Dialects.{text_form}
-use Rattle.tdcc_reader.specs.Sayings.{keyword_term, symbol_term, keyword_with, symbol_with, says, terms_of, too_long}
+use Rattle.tdcc_reader.specs.LexemeTerms.{keyword_term, symbol_term, keyword_with, symbol_with, term_of_lexeme, terms_of, too_long}
 use Rattle.tdcc_reader.specs.Refusals.{HasTerms}
 
 -- a number of the term may stand in a bound, and a name of it can be written
@@ -94,7 +94,7 @@ symbol_fit form (Some symbol.LessEqual) = tt
 symbol_fit form (Some symbol.Equal) = tt
 symbol_fit form (Some symbol.Colon) = tt
 
-said_fit : (form : TextForm) (k : LexKind) (bytes : List ℕ) → kind_of form bytes ≡ Some k → is_long k bytes ≡ false → IsFit form (says k bytes)
+said_fit : (form : TextForm) (k : LexKind) (bytes : List ℕ) → kind_of form bytes ≡ Some k → is_long k bytes ≡ false → IsFit form (term_of_lexeme k bytes)
 said_fit form kind.Name bytes e h = record { is = e; short = ltb-false 32 (length bytes) h }
 said_fit form kind.Keyword bytes e h = keyword_fit form (keyword_with bytes)
 said_fit form kind.Number bytes e h = number_small bytes (kind_number form bytes e) h

@@ -10,8 +10,8 @@ use Rattle.agent_core.specs.declared.node.CellDecl.{CellDecl}
 use Rattle.agent_core.specs.Programs.{CoreProgram}
 use Rattle.agent_core.specs.Facts.{IsAmong}
 use Rattle.program_grammar.specs.Phrases.{NamesPhrase, LastName, MoreName, ItemsPhrase, LastItem, MoreItem}
-use Rattle.tdcc_reader.specs.Scope.{Known, known, kind_of, declared_fault, domain_fault, item_fault, names_known, items_fault, items_known}
-use Rattle.tdcc_reader.specs.Surfaces.{Placed, placed, cell_of, Declared, declared, signal, number, cell_view, names_cells, names_scope, items_cells, items_scope}
+use Rattle.tdcc_reader.specs.Scope.{Known, known, kind_in_scope, declared_fault, domain_fault, item_fault, names_known, items_fault, items_known}
+use Rattle.tdcc_reader.specs.Surfaces.{Placed, placed, cell_in_scope, Declared, declared, declared_signal, declared_number, cell_view, names_cells, names_scope, items_cells, items_scope}
 use Rattle.tdcc_reader.proofs.Asks.{none_left, none_right}
 use Rattle.surface_laws.proofs.CellViews.{seen_cell}
 use Rattle.surface_laws.proofs.FitPhrases.{ItemFit, ItemsFit}
@@ -25,7 +25,7 @@ pub record IsCellOf (p : CoreProgram) (locals : List ℕ) (cell : ℕ) (k : Kind
 
 -- each known name has such a cell
 pub record ArePlaced (p : CoreProgram) (locals : List ℕ) (names : List Known) (places : List Placed) : Type 0 where
-  pub each : (x : List ℕ) (k : Kind) → kind_of names x ≡ Some k → IsCellOf p locals (cell_of places x) k
+  pub each : (x : List ℕ) (k : Kind) → kind_in_scope names x ≡ Some k → IsCellOf p locals (cell_in_scope places x) k
 
 pub none_placed : (p : CoreProgram) → ArePlaced p [] [] []
 none_placed p = record { each = λ x k e. cc }
@@ -43,12 +43,12 @@ name_placed : (p : CoreProgram) (locals : List ℕ) (names : List Known) (places
     → ArePlaced p locals names places → IsCellOf p locals n k → ArePlaced p locals (known x k ∷ names) (placed x n ∷ places)
 name_placed p locals names places x k n are is = record { each = λ y j e. go y j (bytes_eq x y) e }
   where
-    go : (y : List ℕ) (j : Kind) (b : Bool) → (if b then Some k else kind_of names y) ≡ Some j → IsCellOf p locals (if b then n else cell_of places y) j
+    go : (y : List ℕ) (j : Kind) (b : Bool) → (if b then Some k else kind_in_scope names y) ≡ Some j → IsCellOf p locals (if b then n else cell_in_scope places y) j
     go y j true e = let f : k ≡ j = cc in subst (IsCellOf p locals n) f is
     go y j false e = are.each y j e
 
 all_wider : (p : CoreProgram) (locals : List ℕ) (local : ℕ) (names : List Known) (places : List Placed) → ArePlaced p locals names places → ArePlaced p (local ∷ locals) names places
-all_wider p locals local names places are = record { each = λ x k e. wider p locals local (cell_of places x) k (are.each x k e) }
+all_wider p locals local names places are = record { each = λ x k e. wider p locals local (cell_in_scope places x) k (are.each x k e) }
 
 at_seam : (front back : List Declared) (d : Declared) → slice_get (front ++ d ∷ back) (length front) ≡ Some d
 at_seam [] back d = refl
@@ -88,11 +88,11 @@ long_more front d n e = let l = length-append front (d ∷ []) in omega arith
 pub names_placed : (ns : NamesPhrase) (p : CoreProgram) (names : List Known) (places : List Placed) (front back : List Declared) (n : ℕ)
     → map cell_view p.cells ≡ front ++ (names_cells ns ++ back) → length front ≡ n → n + length (names_cells ns) ≤ p.declared → ArePlaced p [] names places
     → ArePlaced p [] (names_known ns names) (names_scope ns places n)
-names_placed (LastName x) p names places front back n whole long few are = declared_placed p names places front back x (signal x) kind.Signal n whole long (omega arith) refl are
+names_placed (LastName x) p names places front back n whole long few are = declared_placed p names places front back x (declared_signal x) kind.Signal n whole long (omega arith) refl are
 names_placed (MoreName x ns) p names places front back n whole long few are =
-    names_placed ns p (known x kind.Signal ∷ names) (placed x n ∷ places) (front ++ signal x ∷ []) back (n + 1)
-    (whole_more (map cell_view p.cells) front (names_cells ns ++ back) (signal x) whole) (long_more front (signal x) n long) (omega arith)
-    (declared_placed p names places front (names_cells ns ++ back) x (signal x) kind.Signal n whole long (omega arith) refl are)
+    names_placed ns p (known x kind.Signal ∷ names) (placed x n ∷ places) (front ++ declared_signal x ∷ []) back (n + 1)
+    (whole_more (map cell_view p.cells) front (names_cells ns ++ back) (declared_signal x) whole) (long_more front (declared_signal x) n long) (omega arith)
+    (declared_placed p names places front (names_cells ns ++ back) x (declared_signal x) kind.Signal n whole long (omega arith) refl are)
 
 ordered : (l h : ℤ) → int_lt h l ≡ false → int_le l h ≡ true
 ordered l h e = grind (arith, ints)
@@ -106,21 +106,21 @@ no_fault : {A : Type 0} (b : Bool) (f : A) → (if b then Some f else None) ≡ 
 no_fault true f e = cc
 no_fault false f e = refl
 
--- The cell of a domain without a fault is that of a number.
-pub number_kind : (form : TextForm) (x : List ℕ) (l h : ℤ) (names : List Known) (at : ℕ) → ItemFit form x l h → item_fault x l h names at ≡ None → (number x l h).kind ≡ kind.Number
+-- The cell of a domain without a fault is that of a declared_number.
+pub number_kind : (form : TextForm) (x : List ℕ) (l h : ℤ) (names : List Known) (at : ℕ) → ItemFit form x l h → item_fault x l h names at ≡ None → (declared_number x l h).kind ≡ kind.Number
 number_kind form x l h names at fit e =
     let o : int_lt h l ≡ false = no_fault (int_lt h l) _ (none_right (declared_fault x names at) (domain_fault l h (at + 2)) e) in
     let is : is_cell kind.Number l h ≡ true = all_three (is_bound l) (is_bound h) (int_le l h) fit.low_fit fit.high_fit (ordered l h o) in
-    ap (λ (b : Bool). (if b then declared x kind.Number l h else signal x).kind) is
+    ap (λ (b : Bool). (if b then declared x kind.Number l h else declared_signal x).kind) is
 
 pub items_placed : (form : TextForm) (is : ItemsPhrase) (p : CoreProgram) (names : List Known) (places : List Placed) (front back : List Declared) (n at : ℕ)
     → map cell_view p.cells ≡ front ++ (items_cells is ++ back) → length front ≡ n → n + length (items_cells is) ≤ p.declared → ItemsFit form is → items_fault is names at ≡ None → ArePlaced p [] names places
     → ArePlaced p [] (items_known is names) (items_scope is places n)
 items_placed form (LastItem x l h) p names places front back n at whole long few fit e are =
-    declared_placed p names places front back x (number x l h) kind.Number n whole long (omega arith) (number_kind form x l h names at fit e) are
+    declared_placed p names places front back x (declared_number x l h) kind.Number n whole long (omega arith) (number_kind form x l h names at fit e) are
 items_placed form (MoreItem x l h is) p names places front back n at whole long few fit e are =
     let here = number_kind form x l h names at fit.0 (none_left (item_fault x l h names at) (items_fault is (known x kind.Number ∷ names) (at + 6)) e) in
-    items_placed form is p (known x kind.Number ∷ names) (placed x n ∷ places) (front ++ number x l h ∷ []) back (n + 1) (at + 6)
-    (whole_more (map cell_view p.cells) front (items_cells is ++ back) (number x l h) whole) (long_more front (number x l h) n long) (omega arith)
+    items_placed form is p (known x kind.Number ∷ names) (placed x n ∷ places) (front ++ declared_number x l h ∷ []) back (n + 1) (at + 6)
+    (whole_more (map cell_view p.cells) front (items_cells is ++ back) (declared_number x l h) whole) (long_more front (declared_number x l h) n long) (omega arith)
     fit.1 (none_right (item_fault x l h names at) (items_fault is (known x kind.Number ∷ names) (at + 6)) e)
-    (declared_placed p names places front (items_cells is ++ back) x (number x l h) kind.Number n whole long (omega arith) here are)
+    (declared_placed p names places front (items_cells is ++ back) x (declared_number x l h) kind.Number n whole long (omega arith) here are)

@@ -16,8 +16,8 @@ use Rattle.program_grammar.specs.Phrases as phrase
 use Rattle.tdcc_reader.specs.declared.dialect.Dialect.{Dialect}
 use Rattle.tdcc_reader.specs.Widths.{token_width, constraint_width, unit_width, agent_width, names_width, items_width}
 use Rattle.tdcc_reader.specs.Limits.{first, constraint_limit, unit_limit, agent_limit, limit_from, program_limit}
-use Rattle.tdcc_reader.specs.Scope.{Known, known, kind_of, unknown_fault, signal_fault, number_fault, token_fault, constraint_fault, declared_fault, item_fault, unit_fault, agent_fault, names_known, names_fault, items_known, items_fault, fault_from, program_fault}
-use Rattle.tdcc_reader.specs.Surfaces.{Placed, placed, cell_of, Declared, signal, number, cell_view, token_ask, ask_of, unit_cells, agent_cells, unit_tree, agent_tree, names_cells, names_scope, items_cells, items_scope, tree_from, program_tree, declared_cells, program_cells}
+use Rattle.tdcc_reader.specs.Scope.{Known, known, kind_in_scope, unknown_fault, signal_fault, number_fault, token_fault, constraint_fault, declared_fault, item_fault, unit_fault, agent_fault, names_known, names_fault, items_known, items_fault, fault_from, program_fault}
+use Rattle.tdcc_reader.specs.Surfaces.{Placed, placed, cell_in_scope, Declared, declared_signal, declared_number, cell_view, token_tokens, constraint_of, unit_cells, agent_cells, unit_tree, agent_tree, names_cells, names_scope, items_cells, items_scope, tree_from, program_tree, declared_cells, program_cells}
 use Rattle.tdcc_reader.proofs.Asks.{none_left, none_right, ask_kept, inner}
 use Rattle.surface_laws.specs.Surfaces.{Scoped}
 use Rattle.surface_laws.proofs.FitPhrases.{TokenFit, ConstraintFit, UnitFit, AgentFit, ProgramFit}
@@ -47,28 +47,28 @@ in_scope p locals cell k t is e = record {
   fits = (let f : fits_kind is.decl.cell.kind t ≡ true = ap (λ (j : Kind). fits_kind j t) is.kind ∙ e in f);
 }
 
-token_scoped : (t : TokenPhrase) (p : CoreProgram) (locals : List ℕ) (names : List Known) (places : List Placed) (at : ℕ) → ArePlaced p locals names places → TokenFit t → token_fault t names at ≡ None → AreInScope p locals (token_ask places t)
-token_scoped (phrase.On x) p locals names places at are fit e = (in_scope p locals (cell_of places x) kind.Signal tokens.On (are.each x kind.Signal (signal_known (kind_of names x) at e)) refl, tt)
-token_scoped (phrase.Off x) p locals names places at are fit e = (in_scope p locals (cell_of places x) kind.Signal tokens.Off (are.each x kind.Signal (signal_known (kind_of names x) (at + 1) e)) refl, tt)
-token_scoped (phrase.Clash x) p locals names places at are fit e = let (k, is) = any_known (kind_of names x) (at + 1) e in (in_scope p locals (cell_of places x) k tokens.Clash (are.each x k is) refl, tt)
-token_scoped (AtLeast x n) p locals names places at are fit e = (in_scope p locals (cell_of places x) kind.Number (tokens.AtLeast n) (are.each x kind.Number (number_known (kind_of names x) at e)) fit, tt)
-token_scoped (AtMost x n) p locals names places at are fit e = (in_scope p locals (cell_of places x) kind.Number (tokens.AtMost n) (are.each x kind.Number (number_known (kind_of names x) at e)) fit, tt)
+token_scoped : (t : TokenPhrase) (p : CoreProgram) (locals : List ℕ) (names : List Known) (places : List Placed) (at : ℕ) → ArePlaced p locals names places → TokenFit t → token_fault t names at ≡ None → AreInScope p locals (token_tokens places t)
+token_scoped (phrase.On x) p locals names places at are fit e = (in_scope p locals (cell_in_scope places x) kind.Signal tokens.On (are.each x kind.Signal (signal_known (kind_in_scope names x) at e)) refl, tt)
+token_scoped (phrase.Off x) p locals names places at are fit e = (in_scope p locals (cell_in_scope places x) kind.Signal tokens.Off (are.each x kind.Signal (signal_known (kind_in_scope names x) (at + 1) e)) refl, tt)
+token_scoped (phrase.Clash x) p locals names places at are fit e = let (k, is) = any_known (kind_in_scope names x) (at + 1) e in (in_scope p locals (cell_in_scope places x) k tokens.Clash (are.each x k is) refl, tt)
+token_scoped (AtLeast x n) p locals names places at are fit e = (in_scope p locals (cell_in_scope places x) kind.Number (tokens.AtLeast n) (are.each x kind.Number (number_known (kind_in_scope names x) at e)) fit, tt)
+token_scoped (AtMost x n) p locals names places at are fit e = (in_scope p locals (cell_in_scope places x) kind.Number (tokens.AtMost n) (are.each x kind.Number (number_known (kind_in_scope names x) at e)) fit, tt)
 token_scoped (Exactly x n) p locals names places at are fit e =
-    let is = are.each x kind.Number (number_known (kind_of names x) at e) in
-    (in_scope p locals (cell_of places x) kind.Number (tokens.AtLeast n) is fit, (in_scope p locals (cell_of places x) kind.Number (tokens.AtMost n) is fit, tt))
+    let is = are.each x kind.Number (number_known (kind_in_scope names x) at e) in
+    (in_scope p locals (cell_in_scope places x) kind.Number (tokens.AtLeast n) is fit, (in_scope p locals (cell_in_scope places x) kind.Number (tokens.AtMost n) is fit, tt))
 
 scoped-append : (p : CoreProgram) (locals : List ℕ) (a b : Constraint) → AreInScope p locals a → AreInScope p locals b → AreInScope p locals (a ++ b)
 scoped-append p locals [] b x y = y
 scoped-append p locals (t ∷ a) b (h, x) y = (h, scoped-append p locals a b x y)
 
-tokens_scoped : (c : ConstraintPhrase) (p : CoreProgram) (locals : List ℕ) (names : List Known) (places : List Placed) (at : ℕ) → ArePlaced p locals names places → ConstraintFit c → constraint_fault c names at ≡ None → AreInScope p locals (ask_of places c)
+tokens_scoped : (c : ConstraintPhrase) (p : CoreProgram) (locals : List ℕ) (names : List Known) (places : List Placed) (at : ℕ) → ArePlaced p locals names places → ConstraintFit c → constraint_fault c names at ≡ None → AreInScope p locals (constraint_of places c)
 tokens_scoped (One t) p locals names places at are fit e = token_scoped t p locals names places at are fit e
 tokens_scoped (Both t c) p locals names places at are fit e =
-    scoped-append p locals (token_ask places t) (ask_of places c)
+    scoped-append p locals (token_tokens places t) (constraint_of places c)
     (token_scoped t p locals names places at are fit.0 (none_left (token_fault t names at) (constraint_fault c names (at + token_width t + 1)) e))
     (tokens_scoped c p locals names places (at + token_width t + 1) are fit.1 (none_right (token_fault t names at) (constraint_fault c names (at + token_width t + 1)) e))
 
-constraint_scoped : (dialect : Dialect) (c : ConstraintPhrase) (p : CoreProgram) (locals : List ℕ) (names : List Known) (places : List Placed) (at to : ℕ) → ArePlaced p locals names places → ConstraintFit c → constraint_limit dialect c 0 at ≡ None → constraint_fault c names to ≡ None → IsConstraint p locals (ask_of places c)
+constraint_scoped : (dialect : Dialect) (c : ConstraintPhrase) (p : CoreProgram) (locals : List ℕ) (names : List Known) (places : List Placed) (at to : ℕ) → ArePlaced p locals names places → ConstraintFit c → constraint_limit dialect c 0 at ≡ None → constraint_fault c names to ≡ None → IsConstraint p locals (constraint_of places c)
 constraint_scoped dialect c p locals names places at to are fit l e =
     let (some, few) = ask_kept dialect places c at l in record { some = some; few = few; tokens = tokens_scoped c p locals names places to are fit e }
 
@@ -88,7 +88,7 @@ asked : (form : TextForm) (dialect : Dialect) (c : ConstraintPhrase) (u : UnitPh
     → map cell_view p.cells ≡ front ++ (unit_cells u ++ back) → length front ≡ n → ArePlaced p locals names places → ConstraintFit c × UnitFit form u
     → first (constraint_limit dialect c 0 (at + 1)) (unit_limit dialect u (d + 1) (at + 1 + constraint_width c + 1)) ≡ None
     → first (constraint_fault c names (to + 1)) (unit_fault u names (to + 1 + constraint_width c + 1)) ≡ None
-    → IsConstraint p locals (ask_of places c) × Scoped p locals (unit_tree u places n)
+    → IsConstraint p locals (constraint_of places c) × Scoped p locals (unit_tree u places n)
 asked form dialect c u ih p locals names places front back n d at to whole long are fit l e = (
   constraint_scoped dialect c p locals names places (at + 1) (to + 1) are fit.0
       (none_left (constraint_limit dialect c 0 (at + 1)) (unit_limit dialect u (d + 1) (at + 1 + constraint_width c + 1)) l) (none_left (constraint_fault c names (to + 1)) (unit_fault u names (to + 1 + constraint_width c + 1)) e),
@@ -101,7 +101,7 @@ ended : (form : TextForm) (dialect : Dialect) (a : AgentPhrase) (c : ConstraintP
     → map cell_view p.cells ≡ front ++ (agent_cells a ++ back) → length front ≡ n → ArePlaced p locals names places → AgentFit form a × ConstraintFit c
     → first (agent_limit dialect a (d + 1) (at + 1)) (constraint_limit dialect c 0 (at + 1 + agent_width a + 1)) ≡ None
     → first (agent_fault a names (to + 1)) (constraint_fault c names (to + 1 + agent_width a + 1)) ≡ None
-    → Scoped p locals (agent_tree a places n) × IsConstraint p locals (ask_of places c)
+    → Scoped p locals (agent_tree a places n) × IsConstraint p locals (constraint_of places c)
 ended form dialect a c ih p locals names places front back n d at to whole long are fit l e = (
   ih p locals names places front back n (d + 1) (at + 1) (to + 1) whole long are fit.0
       (none_left (agent_limit dialect a (d + 1) (at + 1)) (constraint_limit dialect c 0 (at + 1 + agent_width a + 1)) l) (none_left (agent_fault a names (to + 1)) (constraint_fault c names (to + 1 + agent_width a + 1)) e),
@@ -130,15 +130,15 @@ mutual
   unit_scoped form dialect (IfElse c u) p locals names places front back n d at to whole long are fit l e =
       asked form dialect c u (unit_scoped form dialect u) p locals names places front back n d at to whole long are fit (inner dialect d at (first (constraint_limit dialect c 0 (at + 1)) (unit_limit dialect u (d + 1) (at + 1 + constraint_width c + 1))) l) e
   unit_scoped form dialect (LocalSignal x u) p locals names places front back n d at to whole long are fit l e =
-      unit_scoped form dialect u p (n ∷ locals) (known x kind.Signal ∷ names) (placed x n ∷ places) (front ++ signal x ∷ []) back (n + 1) (d + 1) (at + 4) (to + 4)
-      (whole_more (map cell_view p.cells) front (unit_cells u ++ back) (signal x) whole) (long_more front (signal x) n long)
-      (local_placed p locals names places front (unit_cells u ++ back) x (signal x) kind.Signal n whole long refl are) fit.1
+      unit_scoped form dialect u p (n ∷ locals) (known x kind.Signal ∷ names) (placed x n ∷ places) (front ++ declared_signal x ∷ []) back (n + 1) (d + 1) (at + 4) (to + 4)
+      (whole_more (map cell_view p.cells) front (unit_cells u ++ back) (declared_signal x) whole) (long_more front (declared_signal x) n long)
+      (local_placed p locals names places front (unit_cells u ++ back) x (declared_signal x) kind.Signal n whole long refl are) fit.1
       (inner dialect d at (unit_limit dialect u (d + 1) (at + 4)) l) (none_right (declared_fault x names (to + 2)) (unit_fault u (known x kind.Signal ∷ names) (to + 4)) e)
   unit_scoped form dialect (LocalInt x low high u) p locals names places front back n d at to whole long are fit l e =
       let is = number_kind form x low high names (to + 2) fit.0 (none_left (item_fault x low high names (to + 2)) (unit_fault u (known x kind.Number ∷ names) (to + 8)) e) in
-      unit_scoped form dialect u p (n ∷ locals) (known x kind.Number ∷ names) (placed x n ∷ places) (front ++ number x low high ∷ []) back (n + 1) (d + 1) (at + 8) (to + 8)
-      (whole_more (map cell_view p.cells) front (unit_cells u ++ back) (number x low high) whole) (long_more front (number x low high) n long)
-      (local_placed p locals names places front (unit_cells u ++ back) x (number x low high) kind.Number n whole long is are) fit.1
+      unit_scoped form dialect u p (n ∷ locals) (known x kind.Number ∷ names) (placed x n ∷ places) (front ++ declared_number x low high ∷ []) back (n + 1) (d + 1) (at + 8) (to + 8)
+      (whole_more (map cell_view p.cells) front (unit_cells u ++ back) (declared_number x low high) whole) (long_more front (declared_number x low high) n long)
+      (local_placed p locals names places front (unit_cells u ++ back) x (declared_number x low high) kind.Number n whole long is are) fit.1
       (inner dialect d at (unit_limit dialect u (d + 1) (at + 8)) l) (none_right (item_fault x low high names (to + 2)) (unit_fault u (known x kind.Number ∷ names) (to + 8)) e)
   unit_scoped form dialect (phrase.Hence u) p locals names places front back n d at to whole long are fit l e =
       unit_scoped form dialect u p locals names places front back n (d + 1) (at + 1) (to + 1) whole long are fit (inner dialect d at (unit_limit dialect u (d + 1) (at + 1)) l) e

@@ -8,7 +8,7 @@ use Rattle.agent_core.specs.Facts.{IsAmong, IsConstraint, count_up}
 use Rattle.core_text.specs.CoreTexts.{name_at}
 use Rattle.core_text.specs.GoodNames.{IsName}
 use Rattle.tdcc_reader.specs.Surfaces.{SurfaceProgram}
-use Rattle.tdcc_reader.specs.Trees.{Tree, Skip, Tell, Then, Else, Par, New, Hence, Next, Always, When, Watch, Time, listing}
+use Rattle.tdcc_reader.specs.Trees.{Tree, Skip, Tell, Then, Else, Par, New, Hence, Next, Always, When, Watch, Time, form_listing}
 
 -- the cells of a surface, as those of a program without nodes
 abbrev pub bare : SurfaceProgram → CoreProgram
@@ -66,7 +66,7 @@ AreFresh p locals (Time a clock) = AreFresh p locals a
 -- the surface is well formed, with names of a text of this form
 pub record IsWellFormed (form : TextForm) (s : SurfaceProgram) : Type 0 where
   pub tree : Tree
-  pub forms : s.forms ≡ listing 0 tree
+  pub forms : s.forms ≡ form_listing 0 tree
   pub within : s.declared ≤ length s.cells
   pub few : s.declared ≤ 256
   pub locals : new_cells tree ≡ count_up s.declared (length s.cells - s.declared)

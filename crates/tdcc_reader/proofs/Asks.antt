@@ -9,12 +9,12 @@ use Rattle.tdcc_reader.specs.declared.dialect.Dialect.{Dialect}
 use Rattle.tdcc_reader.specs.declared.dialect.Dialect.TheVariants as dialects
 use Rattle.tdcc_reader.specs.declared.limits.Limit.{Limit}
 use Rattle.tdcc_reader.specs.declared.limits.Limit.TheVariants.{TooManyTokens}
-use Rattle.tdcc_reader.specs.declared.draft.DraftKind.TheVariants as kind
+use Rattle.tdcc_reader.specs.declared.flat_form.FlatFormKind.TheVariants as kind
 use Rattle.tdcc_reader.specs.Dialects.{max_tokens, equation_count, token_count}
 use Rattle.tdcc_reader.specs.Widths.{token_width, constraint_width, unit_width, agent_width, names_width, items_width}
 use Rattle.tdcc_reader.specs.Limits.{first, many_limit, constraint_limit, deep_limit, unit_limit, agent_limit, limit_from, program_limit}
-use Rattle.tdcc_reader.specs.Surfaces.{Placed, placed, token_ask, ask_of, unit_cells, unit_tree, agent_tree, names_cells, names_scope, items_cells, items_scope, tree_from, program_tree}
-use Rattle.tdcc_reader.specs.Drafts.{entry, drafts, IsAsk, IsWhole}
+use Rattle.tdcc_reader.specs.Surfaces.{Placed, placed, token_tokens, constraint_of, unit_cells, unit_tree, agent_tree, names_cells, names_scope, items_cells, items_scope, tree_from, program_tree}
+use Rattle.tdcc_reader.specs.FlatForms.{entry, flat_forms, IsAsk, IsWholeEntry}
 
 -- none is found only where neither is
 pub none_left : {A : Type 0} (f g : Option A) → first f g ≡ None → f ≡ None
@@ -54,7 +54,7 @@ two_counted : (dialect : Dialect) → IsCounted dialect 2 (equation_count dialec
 two_counted dialects.Program = (lit≤ tt, λ n. omega arith)
 two_counted dialects.Core = (lit≤ tt, λ n. omega arith)
 
-token_counted : (dialect : Dialect) (s : List Placed) (t : TokenPhrase) → IsCounted dialect (length (token_ask s t)) (token_count dialect t)
+token_counted : (dialect : Dialect) (s : List Placed) (t : TokenPhrase) → IsCounted dialect (length (token_tokens s t)) (token_count dialect t)
 token_counted dialect s (phrase.On x) = one_counted dialect
 token_counted dialect s (phrase.Off x) = one_counted dialect
 token_counted dialect s (phrase.Clash x) = one_counted dialect
@@ -62,20 +62,20 @@ token_counted dialect s (AtLeast x n) = one_counted dialect
 token_counted dialect s (AtMost x n) = one_counted dialect
 token_counted dialect s (Exactly x n) = two_counted dialect
 
-constraint_some : (dialect : Dialect) (s : List Placed) (c : ConstraintPhrase) (n at : ℕ) → constraint_limit dialect c n at ≡ None → (1 ≤ length (ask_of s c)) × (length (ask_of s c) + forms_most dialect n ≤ 16)
+constraint_some : (dialect : Dialect) (s : List Placed) (c : ConstraintPhrase) (n at : ℕ) → constraint_limit dialect c n at ≡ None → (1 ≤ length (constraint_of s c)) × (length (constraint_of s c) + forms_most dialect n ≤ 16)
 constraint_some dialect s (One t) n at e =
     let m = most_forms dialect (n + token_count dialect t) (many_kept dialect (n + token_count dialect t) at e) in
     let (x, y) = token_counted dialect s t in let z = y n in (x, omega arith)
 constraint_some dialect s (Both t c) n at e =
     let (x, y) = token_counted dialect s t in let z = y n in
     let (v, w) = constraint_some dialect s c (n + token_count dialect t) (at + token_width t + 1) (none_right (many_limit dialect (n + token_count dialect t) at) (constraint_limit dialect c (n + token_count dialect t) (at + token_width t + 1)) e) in
-    let l = length-append (token_ask s t) (ask_of s c) in (omega arith, omega arith)
+    let l = length-append (token_tokens s t) (constraint_of s c) in (omega arith, omega arith)
 
-pub ask_kept : (dialect : Dialect) (s : List Placed) (c : ConstraintPhrase) (at : ℕ) → constraint_limit dialect c 0 at ≡ None → IsAsk (ask_of s c)
+pub ask_kept : (dialect : Dialect) (s : List Placed) (c : ConstraintPhrase) (at : ℕ) → constraint_limit dialect c 0 at ≡ None → IsAsk (constraint_of s c)
 ask_kept dialect s c at e = let (x, y) = constraint_some dialect s c 0 at e in (x, omega arith)
 
 abbrev UnitWhole : Dialect → UnitPhrase → Type 0
-UnitWhole dialect u = (s : List Placed) (m d at : ℕ) → unit_limit dialect u d at ≡ None → All IsWhole (drafts (unit_tree u s m))
+UnitWhole dialect u = (s : List Placed) (m d at : ℕ) → unit_limit dialect u d at ≡ None → All IsWholeEntry (flat_forms (unit_tree u s m))
 
 -- behind the limit on depth
 pub inner : (dialect : Dialect) (d at : ℕ) (g : Option Limit) → first (deep_limit dialect d at) g ≡ None → g ≡ None
@@ -83,48 +83,48 @@ inner dialect d at g e = none_right (deep_limit dialect d at) g e
 
 mutual
   unit_whole : (dialect : Dialect) (u : UnitPhrase) → UnitWhole dialect u
-  unit_whole dialect phrase.Skip s m d at e = All-cons IsWhole (entry kind.Skip []) [] tt (All-nil IsWhole)
-  unit_whole dialect (Tell c) s m d at e = All-cons IsWhole (entry kind.Tell (ask_of s c)) [] (ask_kept dialect s c at (inner dialect d at (constraint_limit dialect c 0 at) e)) (All-nil IsWhole)
+  unit_whole dialect phrase.Skip s m d at e = All-cons IsWholeEntry (entry kind.Skip []) [] tt (All-nil IsWholeEntry)
+  unit_whole dialect (Tell c) s m d at e = All-cons IsWholeEntry (entry kind.Tell (constraint_of s c)) [] (ask_kept dialect s c at (inner dialect d at (constraint_limit dialect c 0 at) e)) (All-nil IsWholeEntry)
   unit_whole dialect (Braces a) s m d at e = agent_whole dialect a s m (d + 1) (at + 1) (inner dialect d at (agent_limit dialect a (d + 1) (at + 1)) e)
   unit_whole dialect (IfThen c u) s m d at e =
       let i = inner dialect d at (first (constraint_limit dialect c 0 (at + 1)) (unit_limit dialect u (d + 1) (at + 1 + constraint_width c + 1))) e in
-      All-cons IsWhole (entry kind.Then (ask_of s c)) (drafts (unit_tree u s m)) (ask_kept dialect s c (at + 1) (none_left (constraint_limit dialect c 0 (at + 1)) (unit_limit dialect u (d + 1) (at + 1 + constraint_width c + 1)) i))
+      All-cons IsWholeEntry (entry kind.Then (constraint_of s c)) (flat_forms (unit_tree u s m)) (ask_kept dialect s c (at + 1) (none_left (constraint_limit dialect c 0 (at + 1)) (unit_limit dialect u (d + 1) (at + 1 + constraint_width c + 1)) i))
       (unit_whole dialect u s m (d + 1) (at + 1 + constraint_width c + 1) (none_right (constraint_limit dialect c 0 (at + 1)) (unit_limit dialect u (d + 1) (at + 1 + constraint_width c + 1)) i))
   unit_whole dialect (IfElse c u) s m d at e =
       let i = inner dialect d at (first (constraint_limit dialect c 0 (at + 1)) (unit_limit dialect u (d + 1) (at + 1 + constraint_width c + 1))) e in
-      All-cons IsWhole (entry kind.Else (ask_of s c)) (drafts (unit_tree u s m)) (ask_kept dialect s c (at + 1) (none_left (constraint_limit dialect c 0 (at + 1)) (unit_limit dialect u (d + 1) (at + 1 + constraint_width c + 1)) i))
+      All-cons IsWholeEntry (entry kind.Else (constraint_of s c)) (flat_forms (unit_tree u s m)) (ask_kept dialect s c (at + 1) (none_left (constraint_limit dialect c 0 (at + 1)) (unit_limit dialect u (d + 1) (at + 1 + constraint_width c + 1)) i))
       (unit_whole dialect u s m (d + 1) (at + 1 + constraint_width c + 1) (none_right (constraint_limit dialect c 0 (at + 1)) (unit_limit dialect u (d + 1) (at + 1 + constraint_width c + 1)) i))
-  unit_whole dialect (LocalSignal x u) s m d at e = All-cons IsWhole (entry (kind.New m) []) (drafts (unit_tree u (placed x m ∷ s) (m + 1))) tt (unit_whole dialect u (placed x m ∷ s) (m + 1) (d + 1) (at + 4) (inner dialect d at (unit_limit dialect u (d + 1) (at + 4)) e))
-  unit_whole dialect (LocalInt x l h u) s m d at e = All-cons IsWhole (entry (kind.New m) []) (drafts (unit_tree u (placed x m ∷ s) (m + 1))) tt (unit_whole dialect u (placed x m ∷ s) (m + 1) (d + 1) (at + 8) (inner dialect d at (unit_limit dialect u (d + 1) (at + 8)) e))
-  unit_whole dialect (phrase.Hence u) s m d at e = All-cons IsWhole (entry kind.Hence []) (drafts (unit_tree u s m)) tt (unit_whole dialect u s m (d + 1) (at + 1) (inner dialect d at (unit_limit dialect u (d + 1) (at + 1)) e))
-  unit_whole dialect (phrase.Next u) s m d at e = All-cons IsWhole (entry kind.Next []) (drafts (unit_tree u s m)) tt (unit_whole dialect u s m (d + 1) (at + 1) (inner dialect d at (unit_limit dialect u (d + 1) (at + 1)) e))
-  unit_whole dialect (phrase.Always u) s m d at e = All-cons IsWhole (entry kind.Always []) (drafts (unit_tree u s m)) tt (unit_whole dialect u s m (d + 1) (at + 1) (inner dialect d at (unit_limit dialect u (d + 1) (at + 1)) e))
+  unit_whole dialect (LocalSignal x u) s m d at e = All-cons IsWholeEntry (entry (kind.New m) []) (flat_forms (unit_tree u (placed x m ∷ s) (m + 1))) tt (unit_whole dialect u (placed x m ∷ s) (m + 1) (d + 1) (at + 4) (inner dialect d at (unit_limit dialect u (d + 1) (at + 4)) e))
+  unit_whole dialect (LocalInt x l h u) s m d at e = All-cons IsWholeEntry (entry (kind.New m) []) (flat_forms (unit_tree u (placed x m ∷ s) (m + 1))) tt (unit_whole dialect u (placed x m ∷ s) (m + 1) (d + 1) (at + 8) (inner dialect d at (unit_limit dialect u (d + 1) (at + 8)) e))
+  unit_whole dialect (phrase.Hence u) s m d at e = All-cons IsWholeEntry (entry kind.Hence []) (flat_forms (unit_tree u s m)) tt (unit_whole dialect u s m (d + 1) (at + 1) (inner dialect d at (unit_limit dialect u (d + 1) (at + 1)) e))
+  unit_whole dialect (phrase.Next u) s m d at e = All-cons IsWholeEntry (entry kind.Next []) (flat_forms (unit_tree u s m)) tt (unit_whole dialect u s m (d + 1) (at + 1) (inner dialect d at (unit_limit dialect u (d + 1) (at + 1)) e))
+  unit_whole dialect (phrase.Always u) s m d at e = All-cons IsWholeEntry (entry kind.Always []) (flat_forms (unit_tree u s m)) tt (unit_whole dialect u s m (d + 1) (at + 1) (inner dialect d at (unit_limit dialect u (d + 1) (at + 1)) e))
   unit_whole dialect (phrase.When c u) s m d at e =
       let i = inner dialect d at (first (constraint_limit dialect c 0 (at + 1)) (unit_limit dialect u (d + 1) (at + 1 + constraint_width c + 1))) e in
-      All-cons IsWhole (entry kind.When (ask_of s c)) (drafts (unit_tree u s m)) (ask_kept dialect s c (at + 1) (none_left (constraint_limit dialect c 0 (at + 1)) (unit_limit dialect u (d + 1) (at + 1 + constraint_width c + 1)) i))
+      All-cons IsWholeEntry (entry kind.When (constraint_of s c)) (flat_forms (unit_tree u s m)) (ask_kept dialect s c (at + 1) (none_left (constraint_limit dialect c 0 (at + 1)) (unit_limit dialect u (d + 1) (at + 1 + constraint_width c + 1)) i))
       (unit_whole dialect u s m (d + 1) (at + 1 + constraint_width c + 1) (none_right (constraint_limit dialect c 0 (at + 1)) (unit_limit dialect u (d + 1) (at + 1 + constraint_width c + 1)) i))
   unit_whole dialect (phrase.Watching a c) s m d at e =
       let i = inner dialect d at (first (agent_limit dialect a (d + 1) (at + 1)) (constraint_limit dialect c 0 (at + 1 + agent_width a + 1))) e in
-      All-cons IsWhole (entry kind.Watch (ask_of s c)) (drafts (agent_tree a s m)) (ask_kept dialect s c (at + 1 + agent_width a + 1) (none_right (agent_limit dialect a (d + 1) (at + 1)) (constraint_limit dialect c 0 (at + 1 + agent_width a + 1)) i))
+      All-cons IsWholeEntry (entry kind.Watch (constraint_of s c)) (flat_forms (agent_tree a s m)) (ask_kept dialect s c (at + 1 + agent_width a + 1) (none_right (agent_limit dialect a (d + 1) (at + 1)) (constraint_limit dialect c 0 (at + 1 + agent_width a + 1)) i))
       (agent_whole dialect a s m (d + 1) (at + 1) (none_left (agent_limit dialect a (d + 1) (at + 1)) (constraint_limit dialect c 0 (at + 1 + agent_width a + 1)) i))
   unit_whole dialect (phrase.TimeOn a c) s m d at e =
       let i = inner dialect d at (first (agent_limit dialect a (d + 1) (at + 1)) (constraint_limit dialect c 0 (at + 1 + agent_width a + 1))) e in
-      All-cons IsWhole (entry kind.Time (ask_of s c)) (drafts (agent_tree a s m)) (ask_kept dialect s c (at + 1 + agent_width a + 1) (none_right (agent_limit dialect a (d + 1) (at + 1)) (constraint_limit dialect c 0 (at + 1 + agent_width a + 1)) i))
+      All-cons IsWholeEntry (entry kind.Time (constraint_of s c)) (flat_forms (agent_tree a s m)) (ask_kept dialect s c (at + 1 + agent_width a + 1) (none_right (agent_limit dialect a (d + 1) (at + 1)) (constraint_limit dialect c 0 (at + 1 + agent_width a + 1)) i))
       (agent_whole dialect a s m (d + 1) (at + 1) (none_left (agent_limit dialect a (d + 1) (at + 1)) (constraint_limit dialect c 0 (at + 1 + agent_width a + 1)) i))
 
-  agent_whole : (dialect : Dialect) (a : AgentPhrase) (s : List Placed) (m d at : ℕ) → agent_limit dialect a d at ≡ None → All IsWhole (drafts (agent_tree a s m))
+  agent_whole : (dialect : Dialect) (a : AgentPhrase) (s : List Placed) (m d at : ℕ) → agent_limit dialect a d at ≡ None → All IsWholeEntry (flat_forms (agent_tree a s m))
   agent_whole dialect (Only u) s m d at e = unit_whole dialect u s m d at e
   agent_whole dialect (Par u a) s m d at e =
-      All-cons IsWhole (entry (kind.Par (1 + length (drafts (unit_tree u s m)))) []) (drafts (unit_tree u s m) ++ drafts (agent_tree a s (m + length (unit_cells u)))) tt
-      (All-append IsWhole (drafts (unit_tree u s m)) (drafts (agent_tree a s (m + length (unit_cells u))))
+      All-cons IsWholeEntry (entry (kind.Par (1 + length (flat_forms (unit_tree u s m)))) []) (flat_forms (unit_tree u s m) ++ flat_forms (agent_tree a s (m + length (unit_cells u)))) tt
+      (All-append IsWholeEntry (flat_forms (unit_tree u s m)) (flat_forms (agent_tree a s (m + length (unit_cells u))))
       (unit_whole dialect u s m d at (none_left (unit_limit dialect u d at) (agent_limit dialect a d (at + unit_width u + 1)) e))
       (agent_whole dialect a s (m + length (unit_cells u)) d (at + unit_width u + 1) (none_right (unit_limit dialect u d at) (agent_limit dialect a d (at + unit_width u + 1)) e)))
 
-whole_from : (dialect : Dialect) (p : ProgramPhrase) (s : List Placed) (m at : ℕ) → limit_from dialect p at ≡ None → All IsWhole (drafts (tree_from p s m))
+whole_from : (dialect : Dialect) (p : ProgramPhrase) (s : List Placed) (m at : ℕ) → limit_from dialect p at ≡ None → All IsWholeEntry (flat_forms (tree_from p s m))
 whole_from dialect (Runs a) s m at e = agent_whole dialect a s m 0 at e
 whole_from dialect (Signals ns p) s m at e = whole_from dialect p (names_scope ns s m) (m + length (names_cells ns)) (at + 1 + names_width ns) e
 whole_from dialect (Ints is p) s m at e = whole_from dialect p (items_scope is s m) (m + length (items_cells is)) (at + 1 + items_width is) e
 
--- The drafts of a program within the limits have such asks.
-pub program_whole : (dialect : Dialect) (p : ProgramPhrase) → program_limit dialect p ≡ None → All IsWhole (drafts (program_tree p))
+-- The flat_forms of a program within the limits have such asks.
+pub program_whole : (dialect : Dialect) (p : ProgramPhrase) → program_limit dialect p ≡ None → All IsWholeEntry (flat_forms (program_tree p))
 program_whole dialect p e = whole_from dialect p [] 0 0 e

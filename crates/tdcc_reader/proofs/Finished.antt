@@ -6,12 +6,12 @@ use Rattle.program_grammar.specs.Phrases.{ProgramPhrase}
 use Rattle.program_grammar.specs.Spelling.{program}
 use Rattle.agent_core.specs.declared.node.CellDecl.{CellDecl}
 use Rattle.tdcc_reader.specs.declared.dialect.Dialect.{Dialect}
-use Rattle.tdcc_reader.specs.declared.draft.Draft.{Draft}
+use Rattle.tdcc_reader.specs.declared.flat_form.FlatForm.{FlatForm}
 use Rattle.tdcc_reader.specs.declared.surface.Form.{Form}
 use Rattle.tdcc_reader.specs.Surfaces.{IsSurfaceOf, program_tree, program_cells, declared_cells, cell_view}
-use Rattle.tdcc_reader.specs.Drafts.{IsWhole, IsWholeDraft, draft_view, forms_at}
+use Rattle.tdcc_reader.specs.FlatForms.{IsWholeEntry, IsWholeFlatForm, flat_form_view, forms_at}
 use Rattle.tdcc_reader.specs.BuildPass.{Built}
-use Rattle.tdcc_reader.specs.Builds.{IsBuilt, IsChecked, IsReady}
+use Rattle.tdcc_reader.specs.Builds.{IsBuilt, IsChecked, IsReadyToBuild}
 use Rattle.program_grammar.specs.Terms.{Term}
 use Rattle.tdcc_reader.specs.Limits.{program_limit}
 use Rattle.tdcc_reader.specs.Scope.{program_fault}
@@ -28,18 +28,18 @@ get_or-map f [] (suc k) d = refl
 get_or-map f (x ∷ xs) zero d = refl
 get_or-map f (x ∷ xs) (suc k) d = get_or-map f xs k d
 
--- the drafts of the code have whole asks
-pub ready_whole : (dialect : Dialect) (text : List ℕ) (p : ProgramPhrase) (b : Built) (ds : List Draft) → IsReady dialect text p b → map draft_view ds ≡ b.drafts → All IsWholeDraft ds
+-- the flat_forms of the code have whole asks
+pub ready_whole : (dialect : Dialect) (text : List ℕ) (p : ProgramPhrase) (b : Built) (ds : List FlatForm) → IsReadyToBuild dialect text p b → map flat_form_view ds ≡ b.flat_forms → All IsWholeFlatForm ds
 ready_whole dialect text p b ds r e k d h =
-    let all : All IsWhole (map draft_view ds) = subst (All IsWhole) (sym (e ∙ r.built.tree)) (program_whole dialect p r.accepts.within) in
-    let l = length-map ds draft_view in
-    subst IsWhole (get_or-map draft_view ds k d) (all k (draft_view d) (omega arith))
+    let all : All IsWholeEntry (map flat_form_view ds) = subst (All IsWholeEntry) (sym (e ∙ r.built.tree)) (program_whole dialect p r.accepts.within) in
+    let l = length-map ds flat_form_view in
+    subst IsWholeEntry (get_or-map flat_form_view ds k d) (all k (flat_form_view d) (omega arith))
 
-pub ready_few : (dialect : Dialect) (text : List ℕ) (p : ProgramPhrase) (b : Built) → IsReady dialect text p b → b.declared ≤ 256
+pub ready_few : (dialect : Dialect) (text : List ℕ) (p : ProgramPhrase) (b : Built) → IsReadyToBuild dialect text p b → b.declared ≤ 256
 ready_few dialect text p b r = let d = r.accepts.declared in let e = r.built.declared in omega arith
 
 -- the surface of the program
-pub ready_surface : (dialect : Dialect) (text : List ℕ) (p : ProgramPhrase) (b : Built) (cells : List CellDecl) (forms : List Form) → IsReady dialect text p b → map cell_view cells ≡ b.cells → forms ≡ forms_at 0 b.drafts
+pub ready_surface : (dialect : Dialect) (text : List ℕ) (p : ProgramPhrase) (b : Built) (cells : List CellDecl) (forms : List Form) → IsReadyToBuild dialect text p b → map cell_view cells ≡ b.cells → forms ≡ forms_at 0 b.flat_forms
     → IsSurfaceOf p (record { cells = cells; declared = b.declared; forms = forms })
 ready_surface dialect text p b cells forms r ec ef =
     let f = forms_fit p in
@@ -68,7 +68,7 @@ all_checked dialect p b within named built few = record {
 pub many_declared : (p : ProgramPhrase) (b : Built) → IsBuilt p b → 256 < b.declared → 256 < length (declared_cells p)
 many_declared p b built many = let e = built.declared in omega arith
 
-pub all_ready : (dialect : Dialect) (text : List ℕ) (ts : List Term) (p : ProgramPhrase) (b : Built) → HasTerms dialect text ts → length ts ≤ 4194304 → IsProgramOf dialect ts p → IsChecked dialect p b → IsReady dialect text p b
+pub all_ready : (dialect : Dialect) (text : List ℕ) (ts : List Term) (p : ProgramPhrase) (b : Built) → HasTerms dialect text ts → length ts ≤ 4194304 → IsProgramOf dialect ts p → IsChecked dialect p b → IsReadyToBuild dialect text p b
 all_ready dialect text ts p b has few is checked = record {
   accepts = record { terms = ts; has = has; is = is; within = checked.within; named = checked.named; declared = checked.declared };
   few = (let e = terms_long dialect ts p is in omega arith);

@@ -1,4 +1,4 @@
--- An index of names, when a name enters the scope and when one leaves it.
+-- An index of names, when a name enters the scope and when one skips it.
 use Rattle.std.proofs.Common.{◌≡◌, ℕ, List, [], ◌∷◌, ◌++◌, reverse, Option, Some, IsSome, Bool, true, false, cond, bytes_eq, Bor, refl, ap, ◌∙◌}
 use Rattle.std.specs.Prelude.{map, if◌then◌else◌}
 use Rattle.std.specs.BTreeMap.{BTreeMap}
@@ -47,7 +47,7 @@ module _ {T : Type 0} where
       let meant = (before ns less m n is e).0 n.name.now in
       rw (meant, named n.name.now)
 
-  -- it leaves
+  -- it skips
   pub left : (ns less : List (Named T)) (m m' : BTreeMap (Bor (List ℕ)) T) (n : Named T) → IsIndexed ns m → ns ≡ less ++ n ∷ []
       → ((x : List ℕ) → indexed m' x ≡ update bytes_eq (indexed m) n.name.now n.hidden x) → IsIndexed less m'
   left ns less m m' n is e says =

@@ -8,7 +8,7 @@ use Rattle.program_lexemes.specs.declared.lexer.LexKind.{LexKind}
 use Rattle.program_lexemes.specs.declared.lexer.LexKind.TheVariants as kind
 use Rattle.program_lexemes.specs.Lexemes.{bytes_of_lexeme}
 use Rattle.program_lexemes.specs.Numbers.{is_long}
-use Rattle.tdcc_reader.specs.Sayings.{too_long}
+use Rattle.tdcc_reader.specs.LexemeTerms.{too_long}
 use Rattle.tdcc_reader.specs.Refusals.{IsFirstLong}
 
 -- the place of the first long lexeme is one of the list's

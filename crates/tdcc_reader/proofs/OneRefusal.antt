@@ -22,7 +22,7 @@ use Rattle.tdcc_reader.specs.Dialects.{max_bytes, text_form, language}
 use Rattle.tdcc_reader.specs.Limits.{first, program_limit}
 use Rattle.tdcc_reader.specs.Scope.{program_fault}
 use Rattle.tdcc_reader.specs.Surfaces.{SurfaceProgram, declared_cells}
-use Rattle.tdcc_reader.specs.Sayings.{terms_of, too_long}
+use Rattle.tdcc_reader.specs.LexemeTerms.{terms_of, too_long}
 use Rattle.tdcc_reader.specs.Stages.{is_later}
 use Rattle.tdcc_reader.specs.Refusals.{IsLexed, HasTerms, IsFirstLong, IsProgramOf, Refuses, Accepts}
 use Rattle.tdcc_reader.specs.Texts.{ReadsAs}

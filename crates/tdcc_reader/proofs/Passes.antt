@@ -17,13 +17,13 @@ rest_of (e ∷ es) = es
 
 steps_events : {S : Type 0} (f : Pass S) (ts : List Term) (n : ℕ) (es : List Event) (s : S) → map (event_at ts) (numbered n es) ≡ es → over_steps f ts (numbered n es) s ≡ over_events f n es s
 steps_events f ts n [] s e = refl
-steps_events f ts n (Skips p ∷ es) s e = steps_events f ts n es (f.leaves p s) (ap rest_of e)
+steps_events f ts n (Skips p ∷ es) s e = steps_events f ts n es (f.skips p s) (ap rest_of e)
 steps_events f ts n (Matches p t ∷ es) s e =
     let here : get_or ts n Skip ≡ t = cc in
     let next : suc n ≡ n + 1 = omega arith in
-    steps_events f ts (suc n) es (f.takes n p (get_or ts n Skip) s) (ap rest_of e)
-    ∙ ap (λ k. over_events f k es (f.takes n p (get_or ts n Skip) s)) next
-    ∙ ap (λ v. over_events f (n + 1) es (f.takes n p v s)) here
+    steps_events f ts (suc n) es (f.matches n p (get_or ts n Skip) s) (ap rest_of e)
+    ∙ ap (λ k. over_events f k es (f.matches n p (get_or ts n Skip) s)) next
+    ∙ ap (λ v. over_events f (n + 1) es (f.matches n p v s)) here
 
 -- so it is for each program of these terms and steps
 pub over_program : {S : Type 0} (f : Pass S) (s : S) → ((p : ProgramPhrase) → map (event_at (program p [])) (numbered 0 (program_events p)) ≡ program_events p)

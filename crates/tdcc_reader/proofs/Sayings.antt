@@ -7,7 +7,7 @@ use Rattle.program_lexemes.specs.declared.keywords.Keyword.TheVariants as keywor
 use Rattle.program_lexemes.specs.declared.symbols.Symbol.{Symbol}
 use Rattle.program_lexemes.specs.declared.symbols.Symbol.TheVariants as symbol
 use Rattle.program_lexemes.specs.Spellings.{keyword_bytes, symbol_bytes, keywords, symbols}
-use Rattle.tdcc_reader.specs.Sayings.{keyword_with, symbol_with, keyword_term, symbol_term}
+use Rattle.tdcc_reader.specs.LexemeTerms.{keyword_with, symbol_with, keyword_term, symbol_term}
 use Rattle.tdcc_reader.specs.Passes.{by_term}
 use Rattle.program_grammar.specs.Terms.{class_of}
 use Rattle.program_grammar.specs.declared.words.Word.{Word}

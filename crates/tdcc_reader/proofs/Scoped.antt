@@ -12,21 +12,21 @@ use Rattle.tdcc_reader.specs.declared.naming.NameFault.{NameFault}
 use Rattle.tdcc_reader.specs.declared.naming.Waiting.TheVariants as waiting
 use Rattle.tdcc_reader.specs.Widths.{token_width, constraint_width, unit_width, agent_width, names_width, items_width}
 use Rattle.tdcc_reader.specs.Limits.{first}
-use Rattle.tdcc_reader.specs.Scope.{Known, known, kind_of, any_use, signal_fault, number_fault, token_fault, constraint_fault, unit_fault, agent_fault, declared_fault, item_fault, domain_fault, names_fault, names_known, items_fault, items_known, fault_from, program_fault}
+use Rattle.tdcc_reader.specs.Scope.{Known, known, kind_in_scope, any_use, signal_fault, number_fault, token_fault, constraint_fault, unit_fault, agent_fault, declared_fault, item_fault, domain_fault, names_fault, names_known, items_fault, items_known, fault_from, program_fault}
 use Rattle.tdcc_reader.specs.Passes.{over_events}
 use Rattle.tdcc_reader.specs.NamingPass as pass
 use Rattle.tdcc_reader.proofs.Firsts.{first_assoc, first_none}
 
-abbrev over : ℕ → List Event → List Known → Option NameFault → pass.Names
-over at es s f = over_events pass.naming_pass at es (pass.names s waiting.Nothing f)
+abbrev over : ℕ → List Event → List Known → Option NameFault → pass.NamingState
+over at es s f = over_events pass.naming_pass at es (pass.naming_state s waiting.Nothing f)
 
 same : (rest : List Event) (s : List Known) {at at' : ℕ} {f f' : Option NameFault} → at ≡ at' → f ≡ f' → over at rest s f ≡ over at' rest s f'
 same rest s {at} {at'} {f} {f'} ea ef = ap (λ x. over x rest s f) ea ∙ ap (λ x. over at' rest s x) ef
 
--- a part that takes the first term of a token
+-- a part that matches the first term of a token
 abbrev Begins : StackSymbol → Type 0
 Begins p = (x : List ℕ) (rest : List Event) (at : ℕ) (s : List Known) (f : Option NameFault)
-    → (over at (Matches p (Name x) ∷ rest) s f ≡ over_events pass.naming_pass (at + 1) rest (pass.names s (waiting.Name (kind_of s x) at) (first f (any_use s x at))))
+    → (over at (Matches p (Name x) ∷ rest) s f ≡ over_events pass.naming_pass (at + 1) rest (pass.naming_state s (waiting.Name (kind_in_scope s x) at) (first f (any_use s x at))))
     × (over at (Matches p Bang ∷ rest) s f ≡ over (at + 1) rest s f)
     × (over at (Matches p Hash ∷ rest) s f ≡ over (at + 1) rest s f)
 
@@ -37,15 +37,15 @@ token_begins : Begins OneToken
 token_begins x rest at s f = (refl, refl, refl)
 
 -- a name with a bound
-bounded : (p : StackSymbol) → Begins p → (x : List ℕ) (rest more : List Event) (sign : Event) → ((at : ℕ) (s : List Known) (k : Option Kind) (f : Option NameFault) → over_events pass.naming_pass (at + 1) (sign ∷ more) (pass.names s (waiting.Name k at) f) ≡ over (at + 1 + 1 + 1) rest s (first f (number_fault k at)))
-    → (at : ℕ) (s : List Known) (f : Option NameFault) → over at (Matches p (Name x) ∷ sign ∷ more) s f ≡ over (at + 3) rest s (first f (first (any_use s x at) (number_fault (kind_of s x) at)))
+bounded : (p : StackSymbol) → Begins p → (x : List ℕ) (rest more : List Event) (sign : Event) → ((at : ℕ) (s : List Known) (k : Option Kind) (f : Option NameFault) → over_events pass.naming_pass (at + 1) (sign ∷ more) (pass.naming_state s (waiting.Name k at) f) ≡ over (at + 1 + 1 + 1) rest s (first f (number_fault k at)))
+    → (at : ℕ) (s : List Known) (f : Option NameFault) → over at (Matches p (Name x) ∷ sign ∷ more) s f ≡ over (at + 3) rest s (first f (first (any_use s x at) (number_fault (kind_in_scope s x) at)))
 bounded p b x rest more sign on at s f =
     (b x (sign ∷ more) at s f).0
-    ∙ on at s (kind_of s x) (first f (any_use s x at))
-    ∙ same rest s (omega arith) (first_assoc f (any_use s x at) (number_fault (kind_of s x) at))
+    ∙ on at s (kind_in_scope s x) (first f (any_use s x at))
+    ∙ same rest s (omega arith) (first_assoc f (any_use s x at) (number_fault (kind_in_scope s x) at))
 
 token_scoped : (p : StackSymbol) → Begins p → (t : TokenPhrase) (rest : List Event) (at : ℕ) (s : List Known) (f : Option NameFault) → over at (token_events p t rest) s f ≡ over (at + token_width t) rest s (first f (token_fault t s at))
-token_scoped p b (phrase.On x) rest at s f = (b x (Skips Bound ∷ rest) at s f).0 ∙ same rest s refl (first_assoc f (any_use s x at) (signal_fault (kind_of s x) at))
+token_scoped p b (phrase.On x) rest at s f = (b x (Skips Bound ∷ rest) at s f).0 ∙ same rest s refl (first_assoc f (any_use s x at) (signal_fault (kind_in_scope s x) at))
 token_scoped p b (phrase.Off x) rest at s f = (b x (Matches DeniedName (Name x) ∷ rest) at s f).1 ∙ same rest s (omega arith) refl
 token_scoped p b (phrase.Clash x) rest at s f = (b x (Matches ClashingName (Name x) ∷ rest) at s f).2 ∙ same rest s (omega arith) refl
 token_scoped p b (AtLeast x k) rest at s f = bounded p b x rest (Matches LeastNumber (Number k) ∷ rest) (Matches Bound GreaterEqual) (λ at s k f. refl) at s f
@@ -156,5 +156,5 @@ scoped_from (Ints is p) at s f =
     ∙ first_assoc f (items_fault is s (at + 1)) (fault_from p (items_known is s) (at + 1 + items_width is))
 
 -- The pass over a program finds the first fault of its names.
-pub program_scoped : (p : ProgramPhrase) → (over_events pass.naming_pass 0 (program_events p) (pass.names [] waiting.Nothing None)).found ≡ program_fault p
+pub program_scoped : (p : ProgramPhrase) → (over_events pass.naming_pass 0 (program_events p) (pass.naming_state [] waiting.Nothing None)).found ≡ program_fault p
 program_scoped p = scoped_from p 0 [] None

@@ -4,7 +4,7 @@ use Rattle.program_grammar.specs.Terms.{Term, Then, Else, Do, Watching, On, Semi
 use Rattle.program_grammar.specs.Phrases.{TokenPhrase, AtLeast, AtMost, Exactly, ConstraintPhrase, One, Both, UnitPhrase, Tell, Braces, IfThen, IfElse, LocalSignal, LocalInt, AgentPhrase, Only, Par, NamesPhrase, LastName, MoreName, ItemsPhrase, LastItem, MoreItem, ProgramPhrase, Runs, Signals, Ints}
 use Rattle.program_grammar.specs.Phrases as phrase
 use Rattle.program_grammar.specs.Spelling.{token, constraint, unit, agent, names, items, program}
-use Rattle.tdcc_reader.specs.Trees.{size}
+use Rattle.tdcc_reader.specs.Trees.{form_count}
 use Rattle.tdcc_reader.specs.Surfaces.{Placed, placed, unit_cells, agent_cells, unit_tree, agent_tree, names_cells, names_scope, items_cells, items_scope, tree_from, program_tree, program_cells}
 
 token_longer : (t : TokenPhrase) (k : List Term) → length k + 1 ≤ length (token t k)
@@ -23,7 +23,7 @@ abbrev Fit : ℕ → ℕ → List Term → List Term → Type 0
 Fit cells forms k whole = (cells + length k ≤ length whole) × (forms + length k ≤ length whole)
 
 mutual
-  unit_fits : (u : UnitPhrase) (n : List Placed) (m : ℕ) (k : List Term) → Fit (length (unit_cells u)) (size (unit_tree u n m)) k (unit u k)
+  unit_fits : (u : UnitPhrase) (n : List Placed) (m : ℕ) (k : List Term) → Fit (length (unit_cells u)) (form_count (unit_tree u n m)) k (unit u k)
   unit_fits phrase.Skip n m k = (omega arith, omega arith)
   unit_fits (Tell c) n m k = let l = constraint_longer c k in (omega arith, omega arith)
   unit_fits (Braces a) n m k = let (x, y) = agent_fits a n m (CloseBrace ∷ k) in (omega arith, omega arith)
@@ -38,7 +38,7 @@ mutual
   unit_fits (phrase.Watching a c) n m k = let l = constraint_longer c k in let (x, y) = agent_fits a n m (Watching ∷ constraint c k) in (omega arith, omega arith)
   unit_fits (phrase.TimeOn a c) n m k = let l = constraint_longer c k in let (x, y) = agent_fits a n m (On ∷ constraint c k) in (omega arith, omega arith)
 
-  agent_fits : (a : AgentPhrase) (n : List Placed) (m : ℕ) (k : List Term) → Fit (length (agent_cells a)) (size (agent_tree a n m)) k (agent a k)
+  agent_fits : (a : AgentPhrase) (n : List Placed) (m : ℕ) (k : List Term) → Fit (length (agent_cells a)) (form_count (agent_tree a n m)) k (agent a k)
   agent_fits (Only u) n m k = unit_fits u n m k
   agent_fits (Par u a) n m k =
       let (x, y) = unit_fits u n m (Bars ∷ agent a k) in
@@ -53,7 +53,7 @@ items_fit : (is : ItemsPhrase) (k : List Term) → length (items_cells is) + len
 items_fit (LastItem x l h) k = omega arith
 items_fit (MoreItem x l h is) k = let i = items_fit is k in omega arith
 
-program_fits : (p : ProgramPhrase) (n : List Placed) (m : ℕ) → Fit (length (program_cells p)) (size (tree_from p n m)) [] (program p [])
+program_fits : (p : ProgramPhrase) (n : List Placed) (m : ℕ) → Fit (length (program_cells p)) (form_count (tree_from p n m)) [] (program p [])
 program_fits (Runs a) n m = agent_fits a n m []
 program_fits (Signals ns p) n m =
     let (x, y) = program_fits p (names_scope ns n m) (m + length (names_cells ns)) in
@@ -67,5 +67,5 @@ program_fits (Ints is p) n m =
 pub cells_fit : (p : ProgramPhrase) → length (program_cells p) ≤ length (program p [])
 cells_fit p = let (x, y) = program_fits p [] 0 in omega arith
 
-pub forms_fit : (p : ProgramPhrase) → size (program_tree p) ≤ length (program p [])
+pub forms_fit : (p : ProgramPhrase) → form_count (program_tree p) ≤ length (program p [])
 forms_fit p = let (x, y) = program_fits p [] 0 in omega arith

@@ -1,4 +1,4 @@
--- What is built of a program: the drafts of its tree, its cells, and how many of them are declared.
+-- What is built of a program: the flat_forms of its tree, its cells, and how many of them are declared.
 use Rattle.std.specs.Prelude.{◌≡◌, ◌≤◌, ℕ, List, [], length, None}
 use Rattle.program_grammar.specs.Phrases.{ProgramPhrase}
 use Rattle.program_grammar.specs.Spelling.{program}
@@ -7,11 +7,11 @@ use Rattle.tdcc_reader.specs.Limits.{program_limit}
 use Rattle.tdcc_reader.specs.Scope.{program_fault}
 use Rattle.tdcc_reader.specs.Refusals.{Accepts}
 use Rattle.tdcc_reader.specs.Surfaces.{program_tree, program_cells, declared_cells}
-use Rattle.tdcc_reader.specs.Drafts.{drafts}
+use Rattle.tdcc_reader.specs.FlatForms.{flat_forms}
 use Rattle.tdcc_reader.specs.BuildPass.{Built}
 
 pub record IsBuilt (p : ProgramPhrase) (b : Built) : Type 0 where
-  pub tree : b.drafts ≡ drafts (program_tree p)
+  pub tree : b.flat_forms ≡ flat_forms (program_tree p)
   pub cells : b.cells ≡ program_cells p
   pub declared : b.declared ≡ length (declared_cells p)
 
@@ -23,7 +23,7 @@ pub record IsChecked (dialect : Dialect) (p : ProgramPhrase) (b : Built) : Type 
   pub built : IsBuilt p b
 
 -- the text is accepted as this program, of which this is built
-pub record IsReady (dialect : Dialect) (text : List ℕ) (p : ProgramPhrase) (b : Built) : Type 0 where
+pub record IsReadyToBuild (dialect : Dialect) (text : List ℕ) (p : ProgramPhrase) (b : Built) : Type 0 where
   pub accepts : Accepts dialect text p
   pub few : length (program p []) ≤ 4194304
   pub built : IsBuilt p b

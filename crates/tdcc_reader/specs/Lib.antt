@@ -1,4 +1,4 @@
-pub mod Sayings
+pub mod LexemeTerms
 pub mod Stages
 pub mod Dialects
 pub mod Refusals
@@ -12,9 +12,9 @@ pub mod Meanings
 pub mod NamingPass
 pub mod Trees
 pub mod Surfaces
-pub mod Drafts
-pub mod Growing
-pub mod Arrivals
+pub mod FlatForms
+pub mod OpenForms
+pub mod Insertions
 pub mod BuildPass
 pub mod Texts
 pub mod Parts

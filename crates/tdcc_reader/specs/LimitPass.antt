@@ -34,36 +34,36 @@ abbrev pub no_tokens : Limits → Limits
 no_tokens s = limits s.depth 0 s.found
 
 -- by the first word of a unit
-abbrev pub takes_unit : Dialect → ℕ → Word → Limits → Limits
-takes_unit dialect at Skip s = unit_begins dialect at s
-takes_unit dialect at Name s = token_begins dialect at (unit_begins dialect at s)
-takes_unit dialect at Bang s = token_begins dialect at (unit_begins dialect at s)
-takes_unit dialect at Hash s = token_begins dialect at (unit_begins dialect at s)
-takes_unit dialect at _ s = deeper (unit_begins dialect at s)
+abbrev pub counts_unit : Dialect → ℕ → Word → Limits → Limits
+counts_unit dialect at Skip s = unit_begins dialect at s
+counts_unit dialect at Name s = token_begins dialect at (unit_begins dialect at s)
+counts_unit dialect at Bang s = token_begins dialect at (unit_begins dialect at s)
+counts_unit dialect at Hash s = token_begins dialect at (unit_begins dialect at s)
+counts_unit dialect at _ s = deeper (unit_begins dialect at s)
 
 -- an equation is at this place: in a core text it is a second token, which begins with the name in front
-abbrev pub takes_equation : Dialect → ℕ → Limits → Limits
-takes_equation Program at s = s
-takes_equation Core at s = token_begins Core (at - 1) s
+abbrev pub counts_equation : Dialect → ℕ → Limits → Limits
+counts_equation Program at s = s
+counts_equation Core at s = token_begins Core (at - 1) s
 
-abbrev pub takes_bound : Dialect → ℕ → Word → Limits → Limits
-takes_bound dialect at Equal s = takes_equation dialect at s
-takes_bound dialect at _ s = s
+abbrev pub counts_bound : Dialect → ℕ → Word → Limits → Limits
+counts_bound dialect at Equal s = counts_equation dialect at s
+counts_bound dialect at _ s = s
 
-abbrev pub takes_limit : Dialect → ℕ → StackSymbol → Word → Limits → Limits
-takes_limit dialect at OneUnit w s = takes_unit dialect at w s
-takes_limit dialect at OneToken w s = token_begins dialect at s
-takes_limit dialect at Bound w s = takes_bound dialect at w s
-takes_limit dialect at TheClose w s = higher s
-takes_limit dialect at TheWatching w s = higher s
-takes_limit dialect at TheOn w s = higher s
-takes_limit dialect at _ w s = s
+abbrev pub counts_matched : Dialect → ℕ → StackSymbol → Word → Limits → Limits
+counts_matched dialect at OneUnit w s = counts_unit dialect at w s
+counts_matched dialect at OneToken w s = token_begins dialect at s
+counts_matched dialect at Bound w s = counts_bound dialect at w s
+counts_matched dialect at TheClose w s = higher s
+counts_matched dialect at TheWatching w s = higher s
+counts_matched dialect at TheOn w s = higher s
+counts_matched dialect at _ w s = s
 
-abbrev pub leaves_limit : StackSymbol → Limits → Limits
-leaves_limit MoreTokens s = no_tokens s
-leaves_limit EndBody s = higher s
-leaves_limit EndLocal s = higher s
-leaves_limit _ s = s
+abbrev pub counts_skipped : StackSymbol → Limits → Limits
+counts_skipped MoreTokens s = no_tokens s
+counts_skipped EndBody s = higher s
+counts_skipped EndLocal s = higher s
+counts_skipped _ s = s
 
 abbrev pub limit_pass : Dialect → Pass Limits
-limit_pass dialect = record { takes = λ at p t s. takes_limit dialect at p (class_of t) s; leaves = leaves_limit }
+limit_pass dialect = record { matches = λ at p t s. counts_matched dialect at p (class_of t) s; skips = counts_skipped }

@@ -17,7 +17,7 @@ use Rattle.tdcc_reader.specs.Dialects.{max_bytes, text_form, language}
 use Rattle.tdcc_reader.specs.Limits.{program_limit}
 use Rattle.tdcc_reader.specs.Scope.{program_fault}
 use Rattle.tdcc_reader.specs.Surfaces.{declared_cells}
-use Rattle.tdcc_reader.specs.Sayings.{terms_of, too_long}
+use Rattle.tdcc_reader.specs.LexemeTerms.{terms_of, too_long}
 use Rattle.tdcc_reader.specs.Stages.{is_later}
 
 -- the text is not too long, and these are its lexemes

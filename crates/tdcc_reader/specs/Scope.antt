@@ -20,9 +20,9 @@ abbrev pub known : List ℕ → Kind → Known
 known x k = record { name = x; kind = k }
 
 -- the kind of a name's cell, if it is in scope: the newest declaration stands first
-abbrev pub kind_of : List Known → List ℕ → Option Kind
-kind_of [] x = None
-kind_of (k ∷ ks) x = if bytes_eq k.name x then Some k.kind else kind_of ks x
+abbrev pub kind_in_scope : List Known → List ℕ → Option Kind
+kind_in_scope [] x = None
+kind_in_scope (k ∷ ks) x = if bytes_eq k.name x then Some k.kind else kind_in_scope ks x
 
 -- the name at this place, whose cell would be of this kind, is not in scope
 abbrev pub unknown_fault : Option Kind → ℕ → Option NameFault
@@ -50,13 +50,13 @@ domain_fault low high at = if int_lt high low then Some (EmptyDomain at) else No
 
 -- the name of a signal, or of a number, or of either is used at this place
 abbrev pub signal_use : List Known → List ℕ → ℕ → Option NameFault
-signal_use scope x at = first (unknown_fault (kind_of scope x) at) (signal_fault (kind_of scope x) at)
+signal_use scope x at = first (unknown_fault (kind_in_scope scope x) at) (signal_fault (kind_in_scope scope x) at)
 
 abbrev pub number_use : List Known → List ℕ → ℕ → Option NameFault
-number_use scope x at = first (unknown_fault (kind_of scope x) at) (number_fault (kind_of scope x) at)
+number_use scope x at = first (unknown_fault (kind_in_scope scope x) at) (number_fault (kind_in_scope scope x) at)
 
 abbrev pub any_use : List Known → List ℕ → ℕ → Option NameFault
-any_use scope x at = unknown_fault (kind_of scope x) at
+any_use scope x at = unknown_fault (kind_in_scope scope x) at
 
 -- the first fault of a token under these names, at this place
 abbrev pub token_fault : TokenPhrase → List Known → ℕ → Option NameFault
@@ -74,7 +74,7 @@ constraint_fault (Both t c) scope at = first (token_fault t scope at) (constrain
 
 -- of a name that is declared at this place
 abbrev pub declared_fault : List ℕ → List Known → ℕ → Option NameFault
-declared_fault x scope at = double_fault (kind_of scope x) at
+declared_fault x scope at = double_fault (kind_in_scope scope x) at
 
 -- of a name with its domain
 abbrev pub item_fault : List ℕ → ℤ → ℤ → List Known → ℕ → Option NameFault

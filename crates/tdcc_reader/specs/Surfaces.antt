@@ -14,7 +14,7 @@ use Rattle.tdcc_reader.specs.declared.surface.Form.{Form}
 use Rattle.tdcc_reader.specs.Trees as tree
 use Rattle.agent_core.specs.Agents.{Constraint}
 
--- a name in scope, and the number of its cell
+-- a name in scope, and the declared_number of its cell
 pub record Placed : Type 0 where
   pub name : List ℕ
   pub cell : ℕ
@@ -23,11 +23,11 @@ abbrev pub placed : List ℕ → ℕ → Placed
 placed x n = record { name = x; cell = n }
 
 -- the cell of a name: the newest declaration stands first
-abbrev pub cell_of : List Placed → List ℕ → ℕ
-cell_of [] x = 0
-cell_of (p ∷ ps) x = if bytes_eq p.name x then p.cell else cell_of ps x
+abbrev pub cell_in_scope : List Placed → List ℕ → ℕ
+cell_in_scope [] x = 0
+cell_in_scope (p ∷ ps) x = if bytes_eq p.name x then p.cell else cell_in_scope ps x
 
--- a cell with its name and its domain; a signal has 0 and 0
+-- a cell with its name and its domain; a declared_signal has 0 and 0
 pub record Declared : Type 0 where
   pub name : List ℕ
   pub kind : Kind
@@ -37,12 +37,12 @@ pub record Declared : Type 0 where
 abbrev pub declared : List ℕ → Kind → ℤ → ℤ → Declared
 declared x k low high = record { name = x; kind = k; low = low; high = high }
 
-abbrev pub signal : List ℕ → Declared
-signal x = declared x kind.Signal (pos 0) (pos 0)
+abbrev pub declared_signal : List ℕ → Declared
+declared_signal x = declared x kind.Signal (pos 0) (pos 0)
 
--- a number with this domain; a domain that is none, as no program without faults has, stands for a signal
-abbrev pub number : List ℕ → ℤ → ℤ → Declared
-number x low high = if is_cell kind.Number low high then declared x kind.Number low high else signal x
+-- a declared_number with this domain; a domain that is none, as no program without faults has, stands for a declared_signal
+abbrev pub declared_number : List ℕ → ℤ → ℤ → Declared
+declared_number x low high = if is_cell kind.Number low high then declared x kind.Number low high else declared_signal x
 
 -- a named cell as such, and a cell of a program
 abbrev pub declared_as : List ℕ → Cell → Declared
@@ -52,17 +52,17 @@ abbrev pub cell_view : CellDecl → Declared
 cell_view d = declared_as d.name d.cell
 
 -- the tokens of a written token, of a constraint
-abbrev pub token_ask : List Placed → TokenPhrase → Constraint
-token_ask scope (phrase.On x) = (cell_of scope x, token.On) ∷ []
-token_ask scope (phrase.Off x) = (cell_of scope x, token.Off) ∷ []
-token_ask scope (phrase.Clash x) = (cell_of scope x, token.Clash) ∷ []
-token_ask scope (AtLeast x n) = (cell_of scope x, token.AtLeast n) ∷ []
-token_ask scope (AtMost x n) = (cell_of scope x, token.AtMost n) ∷ []
-token_ask scope (Exactly x n) = (cell_of scope x, token.AtLeast n) ∷ (cell_of scope x, token.AtMost n) ∷ []
+abbrev pub token_tokens : List Placed → TokenPhrase → Constraint
+token_tokens scope (phrase.On x) = (cell_in_scope scope x, token.On) ∷ []
+token_tokens scope (phrase.Off x) = (cell_in_scope scope x, token.Off) ∷ []
+token_tokens scope (phrase.Clash x) = (cell_in_scope scope x, token.Clash) ∷ []
+token_tokens scope (AtLeast x n) = (cell_in_scope scope x, token.AtLeast n) ∷ []
+token_tokens scope (AtMost x n) = (cell_in_scope scope x, token.AtMost n) ∷ []
+token_tokens scope (Exactly x n) = (cell_in_scope scope x, token.AtLeast n) ∷ (cell_in_scope scope x, token.AtMost n) ∷ []
 
-abbrev pub ask_of : List Placed → ConstraintPhrase → Constraint
-ask_of scope (One t) = token_ask scope t
-ask_of scope (Both t c) = token_ask scope t ++ ask_of scope c
+abbrev pub constraint_of : List Placed → ConstraintPhrase → Constraint
+constraint_of scope (One t) = token_tokens scope t
+constraint_of scope (Both t c) = token_tokens scope t ++ constraint_of scope c
 
 abbrev mutual
   -- the local cells of a unit, in order
@@ -72,8 +72,8 @@ abbrev mutual
   unit_cells (Braces a) = agent_cells a
   unit_cells (IfThen c u) = unit_cells u
   unit_cells (IfElse c u) = unit_cells u
-  unit_cells (LocalSignal x u) = signal x ∷ unit_cells u
-  unit_cells (LocalInt x l h u) = number x l h ∷ unit_cells u
+  unit_cells (LocalSignal x u) = declared_signal x ∷ unit_cells u
+  unit_cells (LocalInt x l h u) = declared_number x l h ∷ unit_cells u
   unit_cells (phrase.Hence u) = unit_cells u
   unit_cells (phrase.Next u) = unit_cells u
   unit_cells (phrase.Always u) = unit_cells u
@@ -90,18 +90,18 @@ abbrev mutual
   -- the tree of a unit under these names, where so many cells stand before its own
   pub unit_tree : UnitPhrase → List Placed → ℕ → tree.Tree
   unit_tree phrase.Skip scope n = tree.Skip
-  unit_tree (Tell c) scope n = tree.Tell (ask_of scope c)
+  unit_tree (Tell c) scope n = tree.Tell (constraint_of scope c)
   unit_tree (Braces a) scope n = agent_tree a scope n
-  unit_tree (IfThen c u) scope n = tree.Then (ask_of scope c) (unit_tree u scope n)
-  unit_tree (IfElse c u) scope n = tree.Else (ask_of scope c) (unit_tree u scope n)
+  unit_tree (IfThen c u) scope n = tree.Then (constraint_of scope c) (unit_tree u scope n)
+  unit_tree (IfElse c u) scope n = tree.Else (constraint_of scope c) (unit_tree u scope n)
   unit_tree (LocalSignal x u) scope n = tree.New n (unit_tree u (placed x n ∷ scope) (n + 1))
   unit_tree (LocalInt x l h u) scope n = tree.New n (unit_tree u (placed x n ∷ scope) (n + 1))
   unit_tree (phrase.Hence u) scope n = tree.Hence (unit_tree u scope n)
   unit_tree (phrase.Next u) scope n = tree.Next (unit_tree u scope n)
   unit_tree (phrase.Always u) scope n = tree.Always (unit_tree u scope n)
-  unit_tree (phrase.When c u) scope n = tree.When (ask_of scope c) (unit_tree u scope n)
-  unit_tree (phrase.Watching a c) scope n = tree.Watch (agent_tree a scope n) (ask_of scope c)
-  unit_tree (phrase.TimeOn a c) scope n = tree.Time (agent_tree a scope n) (ask_of scope c)
+  unit_tree (phrase.When c u) scope n = tree.When (constraint_of scope c) (unit_tree u scope n)
+  unit_tree (phrase.Watching a c) scope n = tree.Watch (agent_tree a scope n) (constraint_of scope c)
+  unit_tree (phrase.TimeOn a c) scope n = tree.Time (agent_tree a scope n) (constraint_of scope c)
 
   -- of an agent
   pub agent_tree : AgentPhrase → List Placed → ℕ → tree.Tree
@@ -110,16 +110,16 @@ abbrev mutual
 
 -- the declared cells, and the names in scope behind a declaration
 abbrev pub names_cells : NamesPhrase → List Declared
-names_cells (LastName x) = signal x ∷ []
-names_cells (MoreName x ns) = signal x ∷ names_cells ns
+names_cells (LastName x) = declared_signal x ∷ []
+names_cells (MoreName x ns) = declared_signal x ∷ names_cells ns
 
 abbrev pub names_scope : NamesPhrase → List Placed → ℕ → List Placed
 names_scope (LastName x) scope n = placed x n ∷ scope
 names_scope (MoreName x ns) scope n = names_scope ns (placed x n ∷ scope) (n + 1)
 
 abbrev pub items_cells : ItemsPhrase → List Declared
-items_cells (LastItem x l h) = number x l h ∷ []
-items_cells (MoreItem x l h is) = number x l h ∷ items_cells is
+items_cells (LastItem x l h) = declared_number x l h ∷ []
+items_cells (MoreItem x l h is) = declared_number x l h ∷ items_cells is
 
 abbrev pub items_scope : ItemsPhrase → List Placed → ℕ → List Placed
 items_scope (LastItem x l h) scope n = placed x n ∷ scope
@@ -154,4 +154,4 @@ pub record SurfaceProgram : Type 0 where
 pub record IsSurfaceOf (p : ProgramPhrase) (s : SurfaceProgram) : Type 0 where
   pub cells : map cell_view s.cells ≡ program_cells p
   pub declared : s.declared ≡ length (declared_cells p)
-  pub forms : s.forms ≡ tree.listing 0 (program_tree p)
+  pub forms : s.forms ≡ tree.form_listing 0 (program_tree p)

@@ -2,7 +2,7 @@
 use Rattle.program_grammar.specs.Terms as grammar
 use Rattle.tdcc_reader.specs.declared.terms.Term.{Term}
 use Rattle.tdcc_reader.specs.declared.terms.Term.TheVariants.{Name, Number, Keyword, Symbol}
-use Rattle.tdcc_reader.specs.Sayings.{keyword_term, symbol_term}
+use Rattle.tdcc_reader.specs.LexemeTerms.{keyword_term, symbol_term}
 
 -- what the term says
 abbrev pub term_view : Term → grammar.Term

@@ -21,31 +21,31 @@ pub data Tree : Type 0 where
   Time : (body : Tree) → (clock : Constraint) → Tree
 
 -- how many forms a tree has
-abbrev pub size : Tree → ℕ
-size Skip = 1
-size (Tell ask) = 1
-size (Then ask a) = suc (size a)
-size (Else ask a) = suc (size a)
-size (Par a b) = suc (size a + size b)
-size (New cell a) = suc (size a)
-size (Hence a) = suc (size a)
-size (Next a) = suc (size a)
-size (Always a) = suc (size a)
-size (When ask a) = suc (size a)
-size (Watch a stop) = suc (size a)
-size (Time a clock) = suc (size a)
+abbrev pub form_count : Tree → ℕ
+form_count Skip = 1
+form_count (Tell ask) = 1
+form_count (Then ask a) = suc (form_count a)
+form_count (Else ask a) = suc (form_count a)
+form_count (Par a b) = suc (form_count a + form_count b)
+form_count (New cell a) = suc (form_count a)
+form_count (Hence a) = suc (form_count a)
+form_count (Next a) = suc (form_count a)
+form_count (Always a) = suc (form_count a)
+form_count (When ask a) = suc (form_count a)
+form_count (Watch a stop) = suc (form_count a)
+form_count (Time a clock) = suc (form_count a)
 
 -- the forms of a tree whose root has number n
-abbrev pub listing : ℕ → Tree → List Form
-listing n Skip = form.Skip ∷ []
-listing n (Tell c) = form.Tell c ∷ []
-listing n (Then c a) = form.Then c (suc n) ∷ listing (suc n) a
-listing n (Else c a) = form.Else c (suc n) ∷ listing (suc n) a
-listing n (Par l r) = form.Par (suc n) (suc n + size l) ∷ (listing (suc n) l ++ listing (suc n + size l) r)
-listing n (New cell a) = form.New cell (suc n) ∷ listing (suc n) a
-listing n (Hence a) = form.Hence (suc n) ∷ listing (suc n) a
-listing n (Next a) = form.Next (suc n) ∷ listing (suc n) a
-listing n (Always a) = form.Always (suc n) ∷ listing (suc n) a
-listing n (When c a) = form.When c (suc n) ∷ listing (suc n) a
-listing n (Watch a c) = form.Watch (suc n) c ∷ listing (suc n) a
-listing n (Time a c) = form.Time (suc n) c ∷ listing (suc n) a
+abbrev pub form_listing : ℕ → Tree → List Form
+form_listing n Skip = form.Skip ∷ []
+form_listing n (Tell c) = form.Tell c ∷ []
+form_listing n (Then c a) = form.Then c (suc n) ∷ form_listing (suc n) a
+form_listing n (Else c a) = form.Else c (suc n) ∷ form_listing (suc n) a
+form_listing n (Par l r) = form.Par (suc n) (suc n + form_count l) ∷ (form_listing (suc n) l ++ form_listing (suc n + form_count l) r)
+form_listing n (New cell a) = form.New cell (suc n) ∷ form_listing (suc n) a
+form_listing n (Hence a) = form.Hence (suc n) ∷ form_listing (suc n) a
+form_listing n (Next a) = form.Next (suc n) ∷ form_listing (suc n) a
+form_listing n (Always a) = form.Always (suc n) ∷ form_listing (suc n) a
+form_listing n (When c a) = form.When c (suc n) ∷ form_listing (suc n) a
+form_listing n (Watch a c) = form.Watch (suc n) c ∷ form_listing (suc n) a
+form_listing n (Time a c) = form.Time (suc n) c ∷ form_listing (suc n) a

@@ -1,20 +1,20 @@
-// The drafts of a program, from its steps.
+// The flat_forms of a program, from its steps.
 ghost use Rattle.std.specs.Prelude.{◌≡◌, ◌∷◌, ◌≤◌, [], IfOk, OnOk, length, map};
 ghost use Rattle.program_grammar.specs.Phrases.{ProgramPhrase};
 ghost use Rattle.program_grammar.specs.Programs.{Spells};
 ghost use Rattle.program_grammar.specs.Reading.{AreSteps};
 ghost use Rattle.program_grammar.specs.declared.words.Language.{Language};
 ghost use Rattle.token_system.specs.declared.cell.Token.TheVariants as Token;
-ghost use Rattle.tdcc_reader.specs.BuildPass.{Subject, asks, asks_waiting, begins, build_pass, built_view, counts_declared, declares, declares_number, declares_signal, ends, leaves_built, leaves_scope, next_cell, next_unit, nothing_built, puts, puts_asked, scoped_view, takes_branch, takes_built, takes_low, takes_name, takes_number, takes_unit, takes_word, waits_for, waits_view, wraps};
+ghost use Rattle.tdcc_reader.specs.BuildPass.{Subject, asks, asks_waiting, begins, build_pass, built_view, counts_declared, builds_declaration, declares_number, declares_signal, ends, builds_skipped, builds_scope_end, next_cell, next_unit, nothing_built, puts, puts_asked, scoped_view, builds_branch, builds_matched, builds_low, builds_name, builds_number, builds_unit, builds_word, waits_for, waits_view, wraps};
 ghost use Rattle.tdcc_reader.specs.Builds.{IsBuilt};
 ghost use Rattle.tdcc_reader.specs.Passes.{over_steps};
-ghost use Rattle.tdcc_reader.specs.Surfaces.{cell_of, cell_view, declared_as, number, program_cells};
+ghost use Rattle.tdcc_reader.specs.Surfaces.{cell_in_scope, cell_view, declared_as, declared_number, program_cells};
 ghost use Rattle.tdcc_reader.specs.TermViews.{term_view};
-ghost use Rattle.tdcc_reader.specs.declared.draft.DraftKind as DraftKind;
+ghost use Rattle.tdcc_reader.specs.declared.flat_form.FlatFormKind as FlatFormKind;
 
-use crate::arrivals::Arrivals;
+use crate::insertions::Insertions;
 use crate::cells::{number_cell, signal_cell};
-use crate::draft::{Draft, DraftKind};
+use crate::flat_form::{FlatForm, FlatFormKind};
 use crate::scope::Scope;
 use crate::terms::{Term, term_at};
 use agent_core::{CellDecl, Name};
@@ -38,7 +38,7 @@ enum Held<'a> {
 /// A program in the making.
 #[derive(Debug, Drop)]
 pub(crate) struct Builder<'a> {
-    pub(crate) arrivals: Arrivals,
+    pub(crate) insertions: Insertions,
     /// The tokens of the constraint at hand.
     ask: Vec<(u32, Token)>,
     scope: Scope<'a, u32>,
@@ -49,26 +49,26 @@ pub(crate) struct Builder<'a> {
 
 /// The cell of a name in scope.
 fn cell_of<'a>(scope: &Scope<'a, u32>, name: &'a [u8]) -> u32
-    ensures { result ≡ cell_of (map scoped_view scope.now) name.now }
+    ensures { result ≡ cell_in_scope (map scoped_view scope.now) name.now }
 {
     scope.meaning(name).unwrap_or(0)
 }
 
 impl<'a> Builder<'a> {
-    fn put(&mut self, alloc: Global, kind: DraftKind) -> Result<(), AllocError>
+    fn put(&mut self, alloc: Global, kind: FlatFormKind) -> Result<(), AllocError>
         ensures { OnOk result (built_view self.new ≡ puts kind (built_view self.old)) }
     {
-        self.arrivals.put(Draft {
+        self.insertions.put(FlatForm {
             kind,
             ask: Vec::new(alloc),
         })
     }
 
-    fn put_asked(&mut self, alloc: Global, kind: DraftKind) -> Result<(), AllocError>
+    fn put_asked(&mut self, alloc: Global, kind: FlatFormKind) -> Result<(), AllocError>
         ensures { OnOk result (built_view self.new ≡ puts_asked kind (built_view self.old)) }
     {
         let ask = mem::replace(&mut self.ask, Vec::new(alloc));
-        self.arrivals.put(Draft { kind, ask })
+        self.insertions.put(FlatForm { kind, ask })
     }
 
     fn ask(&mut self, cell: u32, token: Token) -> Result<(), AllocError>
@@ -105,26 +105,26 @@ impl<'a> Builder<'a> {
     fn begin(&mut self) -> Result<(), AllocError>
         ensures { OnOk result (built_view self.new ≡ begins (built_view self.old)) }
     {
-        self.arrivals.begin()
+        self.insertions.begin()
     }
 
     fn end(&mut self)
         ensures { built_view self.new ≡ ends (built_view self.old) }
     {
-        self.arrivals.end();
+        self.insertions.end();
     }
 
     fn next_unit(&mut self, alloc: Global) -> Result<(), AllocError>
         ensures { OnOk result (built_view self.new ≡ next_unit (built_view self.old)) }
     {
-        self.arrivals.next_unit(alloc)
+        self.insertions.next_unit(alloc)
     }
 
-    fn wrap(&mut self, alloc: Global, kind: DraftKind) -> Result<(), AllocError>
+    fn wrap(&mut self, alloc: Global, kind: FlatFormKind) -> Result<(), AllocError>
         ensures { OnOk result (built_view self.new ≡ wraps kind (built_view self.old)) }
     {
         let ask = mem::replace(&mut self.ask, Vec::new(alloc));
-        self.arrivals.wrap(Draft { kind, ask })
+        self.insertions.wrap(FlatForm { kind, ask })
     }
 
     /// The number of the next cell.
@@ -135,7 +135,7 @@ impl<'a> Builder<'a> {
     }
 
     fn declare(&mut self, alloc: Global, name: &'a [u8], cell: Cell) -> Result<(), AllocError>
-        ensures { OnOk result (built_view self.new ≡ declares name.now (declared_as name.now cell) (built_view self.old)) }
+        ensures { OnOk result (built_view self.new ≡ builds_declaration name.now (declared_as name.now cell) (built_view self.old)) }
     {
         let number = self.next_cell();
         self.scope.enter(name, number)?;
@@ -160,21 +160,21 @@ impl<'a> Builder<'a> {
         low: i64,
         high: i64,
     ) -> Result<(), AllocError>
-        ensures { OnOk result (built_view self.new ≡ declares name.now (number name.now low high) (built_view self.old)) }
+        ensures { OnOk result (built_view self.new ≡ builds_declaration name.now (declared_number name.now low high) (built_view self.old)) }
     {
         self.declare(alloc, name, number_cell(low, high))?;
         Ok(())
     }
 
-    fn take_low(&mut self, low: i64)
-        ensures { built_view self.new ≡ takes_low (waits_view self.old.held) low (built_view self.old) }
+    fn match_low(&mut self, low: i64)
+        ensures { built_view self.new ≡ builds_low (waits_view self.old.held) low (built_view self.old) }
     {
         if let Held::Item(name) = self.held {
             self.held = Held::Low(name, low);
         }
     }
 
-    fn take_high(&mut self, alloc: Global, high: i64) -> Result<(), AllocError>
+    fn match_high(&mut self, alloc: Global, high: i64) -> Result<(), AllocError>
         ensures { OnOk result (built_view self.new ≡ declares_number (waits_view self.old.held) high (built_view self.old)) }
     {
         if let Held::Low(name, low) = self.held {
@@ -184,8 +184,8 @@ impl<'a> Builder<'a> {
         Ok(())
     }
 
-    fn leave_scope(&mut self)
-        ensures { built_view self.new ≡ leaves_scope (built_view self.old) }
+    fn skip_scope(&mut self)
+        ensures { built_view self.new ≡ builds_scope_end (built_view self.old) }
     {
         self.scope.leave();
     }
@@ -197,21 +197,21 @@ impl<'a> Builder<'a> {
     }
 
     fn hold_subject(&mut self, name: &'a [u8])
-        ensures { built_view self.new ≡ takes_name StackSymbol.OneToken name.now (built_view self.old) }
+        ensures { built_view self.new ≡ builds_name StackSymbol.OneToken name.now (built_view self.old) }
     {
         let cell = cell_of(&self.scope, name);
         self.hold(Held::Subject(cell));
     }
 
     fn open_local(&mut self, alloc: Global) -> Result<(), AllocError>
-        ensures { OnOk result (built_view self.new ≡ puts (DraftKind.New (next_cell (map cell_view self.old.cells.items))) (built_view self.old)) }
+        ensures { OnOk result (built_view self.new ≡ puts (FlatFormKind.New (next_cell (map cell_view self.old.cells.items))) (built_view self.old)) }
     {
         let cell = self.next_cell();
-        self.put(alloc, DraftKind::New(cell))
+        self.put(alloc, FlatFormKind::New(cell))
     }
 
-    fn take_name(&mut self, alloc: Global, part: StackSymbol, name: &'a [u8]) -> Result<(), AllocError>
-        ensures { OnOk result (built_view self.new ≡ takes_name part name.now (built_view self.old)) }
+    fn match_name(&mut self, alloc: Global, part: StackSymbol, name: &'a [u8]) -> Result<(), AllocError>
+        ensures { OnOk result (built_view self.new ≡ builds_name part name.now (built_view self.old)) }
     {
         match part {
             StackSymbol::OneUnit | StackSymbol::OneToken => self.hold_subject(name),
@@ -238,15 +238,15 @@ impl<'a> Builder<'a> {
         Ok(())
     }
 
-    fn take_number(&mut self, alloc: Global, part: StackSymbol, number: i64) -> Result<(), AllocError>
-        ensures { OnOk result (built_view self.new ≡ takes_number part number (built_view self.old)) }
+    fn match_number(&mut self, alloc: Global, part: StackSymbol, number: i64) -> Result<(), AllocError>
+        ensures { OnOk result (built_view self.new ≡ builds_number part number (built_view self.old)) }
     {
         match part {
             StackSymbol::LowNumber => {
-                self.take_low(number);
+                self.match_low(number);
                 Ok(())
             }
-            StackSymbol::HighNumber => self.take_high(alloc, number),
+            StackSymbol::HighNumber => self.match_high(alloc, number),
             StackSymbol::LeastNumber => self.ask_held(Token::AtLeast(number)),
             StackSymbol::MostNumber => self.ask_held(Token::AtMost(number)),
             StackSymbol::ExactNumber => self.ask_exactly(number),
@@ -254,15 +254,15 @@ impl<'a> Builder<'a> {
         }
     }
 
-    fn take_unit(&mut self, alloc: Global, word: Word) -> Result<(), AllocError>
-        ensures { OnOk result (built_view self.new ≡ takes_unit word (built_view self.old)) }
+    fn match_unit(&mut self, alloc: Global, word: Word) -> Result<(), AllocError>
+        ensures { OnOk result (built_view self.new ≡ builds_unit word (built_view self.old)) }
     {
         match word {
-            Word::Skip => self.put(alloc, DraftKind::Skip),
+            Word::Skip => self.put(alloc, FlatFormKind::Skip),
             Word::OpenBrace => self.begin(),
-            Word::Hence => self.put(alloc, DraftKind::Hence),
-            Word::Next => self.put(alloc, DraftKind::Next),
-            Word::Always => self.put(alloc, DraftKind::Always),
+            Word::Hence => self.put(alloc, FlatFormKind::Hence),
+            Word::Next => self.put(alloc, FlatFormKind::Next),
+            Word::Always => self.put(alloc, FlatFormKind::Always),
             Word::Do | Word::Time => {
                 self.begin()?;
                 self.begin()
@@ -271,50 +271,50 @@ impl<'a> Builder<'a> {
         }
     }
 
-    fn take_branch(&mut self, alloc: Global, word: Word) -> Result<(), AllocError>
-        ensures { OnOk result (built_view self.new ≡ takes_branch word (built_view self.old)) }
+    fn match_branch(&mut self, alloc: Global, word: Word) -> Result<(), AllocError>
+        ensures { OnOk result (built_view self.new ≡ builds_branch word (built_view self.old)) }
     {
         match word {
-            Word::Then => self.put_asked(alloc, DraftKind::Then),
-            Word::Else => self.put_asked(alloc, DraftKind::Else),
+            Word::Then => self.put_asked(alloc, FlatFormKind::Then),
+            Word::Else => self.put_asked(alloc, FlatFormKind::Else),
             _ => Ok(()),
         }
     }
 
-    fn take_word(&mut self, alloc: Global, part: StackSymbol, word: Word) -> Result<(), AllocError>
-        ensures { OnOk result (built_view self.new ≡ takes_word part word (built_view self.old)) }
+    fn match_word(&mut self, alloc: Global, part: StackSymbol, word: Word) -> Result<(), AllocError>
+        ensures { OnOk result (built_view self.new ≡ builds_word part word (built_view self.old)) }
     {
         match part {
-            StackSymbol::OneUnit => self.take_unit(alloc, word),
+            StackSymbol::OneUnit => self.match_unit(alloc, word),
             StackSymbol::MoreUnits => self.next_unit(alloc),
-            StackSymbol::Branch => self.take_branch(alloc, word),
-            StackSymbol::TheDo => self.put_asked(alloc, DraftKind::When),
+            StackSymbol::Branch => self.match_branch(alloc, word),
+            StackSymbol::TheDo => self.put_asked(alloc, FlatFormKind::When),
             _ => Ok(()),
         }
     }
 
     fn take(&mut self, alloc: Global, part: StackSymbol, term: Term<'a>) -> Result<(), AllocError>
-        ensures { OnOk result (built_view self.new ≡ takes_built part (term_view term.entry) (built_view self.old)) }
+        ensures { OnOk result (built_view self.new ≡ builds_matched part (term_view term.entry) (built_view self.old)) }
     {
         match term {
-            Term::Name(name) => self.take_name(alloc, part, name),
-            Term::Number(number) => self.take_number(alloc, part, number),
-            Term::Keyword(_) => self.take_word(alloc, part, term.word()),
-            Term::Symbol(_) => self.take_word(alloc, part, term.word()),
+            Term::Name(name) => self.match_name(alloc, part, name),
+            Term::Number(number) => self.match_number(alloc, part, number),
+            Term::Keyword(_) => self.match_word(alloc, part, term.word()),
+            Term::Symbol(_) => self.match_word(alloc, part, term.word()),
         }
     }
 
     fn leave(&mut self, alloc: Global, part: StackSymbol) -> Result<(), AllocError>
-        ensures { OnOk result (built_view self.new ≡ leaves_built part (built_view self.old)) }
+        ensures { OnOk result (built_view self.new ≡ builds_skipped part (built_view self.old)) }
     {
         match part {
             StackSymbol::Declarations => self.declared = self.cells.len(),
             StackSymbol::MoreUnits => self.end(),
             StackSymbol::Bound => self.ask_held(Token::On)?,
-            StackSymbol::EndTell => self.put_asked(alloc, DraftKind::Tell)?,
-            StackSymbol::EndLocal => self.leave_scope(),
-            StackSymbol::EndWatch => self.wrap(alloc, DraftKind::Watch)?,
-            StackSymbol::EndTimed => self.wrap(alloc, DraftKind::Time)?,
+            StackSymbol::EndTell => self.put_asked(alloc, FlatFormKind::Tell)?,
+            StackSymbol::EndLocal => self.skip_scope(),
+            StackSymbol::EndWatch => self.wrap(alloc, FlatFormKind::Watch)?,
+            StackSymbol::EndTimed => self.wrap(alloc, FlatFormKind::Time)?,
             _ => {}
         }
         Ok(())
@@ -330,7 +330,7 @@ fn build_steps<'a>(
     ensures { IfOk result (λ b. built_view b ≡ over_steps build_pass (map term_view terms.now) steps.now nothing_built) }
 {
     let mut builder = Builder {
-        arrivals: Arrivals::new(alloc)?,
+        insertions: Insertions::new(alloc)?,
         ask: Vec::new(alloc),
         scope: Scope::new(alloc),
         cells: Vec::new(alloc),

@@ -2,7 +2,7 @@
 ghost use Rattle.std.specs.Prelude.{◌≡◌, ℕ, List};
 ghost use Rattle.token_system.specs.Domain.{is_cell};
 ghost use Rattle.token_system.specs.declared.cell.Kind.TheVariants as Kind;
-ghost use Rattle.tdcc_reader.specs.Surfaces.{declared_as, number, signal};
+ghost use Rattle.tdcc_reader.specs.Surfaces.{declared_as, declared_number, declared_signal};
 
 use token_system::{Cell, Kind};
 
@@ -11,7 +11,7 @@ const MAX_BOUND: i64 = 999_999_999;
 
 /// The cell of a signal.
 pub(crate) fn signal_cell() -> Cell
-    ensures { (x : List ℕ) → declared_as x result ≡ signal x }
+    ensures { (x : List ℕ) → declared_as x result ≡ declared_signal x }
 {
     Cell {
         kind: Kind::Signal,
@@ -29,7 +29,7 @@ fn is_domain(lo: i64, hi: i64) -> bool
 
 /// The cell of a number with this domain.
 pub(crate) fn number_cell(lo: i64, hi: i64) -> Cell
-    ensures { (x : List ℕ) → declared_as x result ≡ number x lo hi }
+    ensures { (x : List ℕ) → declared_as x result ≡ declared_number x lo hi }
 {
     if !is_domain(lo, hi) {
         return signal_cell();

@@ -6,7 +6,7 @@ ghost use Rattle.program_lexemes.specs.declared.lexer.Lexeme.{Lexeme};
 ghost use Rattle.tdcc_reader.specs.declared.fault.ReadFault as ReadFault;
 ghost use Rattle.tdcc_reader.specs.Dialects.{text_form};
 ghost use Rattle.tdcc_reader.specs.Refusals.{HasTerms, IsLexed, Refuses, RefusesLexemes};
-ghost use Rattle.tdcc_reader.specs.Sayings.{too_long};
+ghost use Rattle.tdcc_reader.specs.LexemeTerms.{too_long};
 ghost use Rattle.tdcc_reader.specs.TermViews.{term_view};
 
 use crate::dialect::Dialect;

@@ -2,11 +2,11 @@
 //! refusal.
 #![tactic(auto)]
 
-mod arrivals;
+mod insertions;
 mod build;
 mod cells;
 mod dialect;
-mod draft;
+mod flat_form;
 mod fault;
 mod finish;
 mod laws;

@@ -4,7 +4,7 @@ ghost use Rattle.program_grammar.specs.Phrases.{ProgramPhrase};
 ghost use Rattle.program_grammar.specs.Programs.{Spells};
 ghost use Rattle.program_grammar.specs.Reading.{AreSteps};
 ghost use Rattle.program_grammar.specs.declared.words.Language.{Language};
-ghost use Rattle.tdcc_reader.specs.LimitPass.{deeper, higher, leaves_limit, limit_pass, limits, no_tokens, takes_bound, takes_equation, takes_limit, takes_unit, token_begins, unit_begins};
+ghost use Rattle.tdcc_reader.specs.LimitPass.{deeper, higher, counts_skipped, limit_pass, limits, no_tokens, counts_bound, counts_equation, counts_matched, counts_unit, token_begins, unit_begins};
 ghost use Rattle.tdcc_reader.specs.Limits.{first, program_limit};
 ghost use Rattle.tdcc_reader.specs.Passes.{over_steps};
 ghost use Rattle.tdcc_reader.specs.Refusals.{RefusesLimits};
@@ -95,10 +95,10 @@ impl Limits {
         Limits { tokens: 0, ..self }
     }
 
-    fn take_unit(self, dialect: Dialect, lexeme: u32, word: Word) -> Limits
+    fn match_unit(self, dialect: Dialect, lexeme: u32, word: Word) -> Limits
         requires depth { self.depth < 2 ^ 63 }
         requires tokens { self.tokens < 2 ^ 63 }
-        ensures { result ≡ takes_unit dialect lexeme word self }
+        ensures { result ≡ counts_unit dialect lexeme word self }
     {
         let begun = self.unit_begins(dialect, lexeme);
         match word {
@@ -109,9 +109,9 @@ impl Limits {
     }
 
     /// An equation, which in a core text is a second token. It begins with the name in front.
-    fn take_equation(self, dialect: Dialect, lexeme: u32) -> Limits
+    fn match_equation(self, dialect: Dialect, lexeme: u32) -> Limits
         requires { self.tokens < 2 ^ 63 }
-        ensures { result ≡ takes_equation dialect lexeme self }
+        ensures { result ≡ counts_equation dialect lexeme self }
     {
         match dialect {
             Dialect::Program => self,
@@ -119,12 +119,12 @@ impl Limits {
         }
     }
 
-    fn take_bound(self, dialect: Dialect, lexeme: u32, word: Word) -> Limits
+    fn match_bound(self, dialect: Dialect, lexeme: u32, word: Word) -> Limits
         requires { self.tokens < 2 ^ 63 }
-        ensures { result ≡ takes_bound dialect lexeme word self }
+        ensures { result ≡ counts_bound dialect lexeme word self }
     {
         match word {
-            Word::Equal => self.take_equation(dialect, lexeme),
+            Word::Equal => self.match_equation(dialect, lexeme),
             _ => self,
         }
     }
@@ -132,19 +132,19 @@ impl Limits {
     fn take(self, dialect: Dialect, lexeme: u32, part: StackSymbol, word: Word) -> Limits
         requires depth { self.depth < 2 ^ 63 }
         requires tokens { self.tokens < 2 ^ 63 }
-        ensures { result ≡ takes_limit dialect lexeme part word self }
+        ensures { result ≡ counts_matched dialect lexeme part word self }
     {
         match part {
-            StackSymbol::OneUnit => self.take_unit(dialect, lexeme, word),
+            StackSymbol::OneUnit => self.match_unit(dialect, lexeme, word),
             StackSymbol::OneToken => self.token_begins(dialect, lexeme),
-            StackSymbol::Bound => self.take_bound(dialect, lexeme, word),
+            StackSymbol::Bound => self.match_bound(dialect, lexeme, word),
             StackSymbol::TheClose | StackSymbol::TheWatching | StackSymbol::TheOn => self.higher(),
             _ => self,
         }
     }
 
     fn leave(self, part: StackSymbol) -> Limits
-        ensures { result ≡ leaves_limit part self }
+        ensures { result ≡ counts_skipped part self }
     {
         match part {
             StackSymbol::MoreTokens => self.no_tokens(),

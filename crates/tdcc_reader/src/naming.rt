@@ -6,10 +6,10 @@ ghost use Rattle.program_grammar.specs.Programs.{Spells};
 ghost use Rattle.program_grammar.specs.Reading.{AreSteps};
 ghost use Rattle.program_grammar.specs.declared.words.Language.{Language};
 ghost use Rattle.tdcc_reader.specs.declared.fault.ReadFault as ReadFault;
-ghost use Rattle.tdcc_reader.specs.NamingPass.{declares, known_view, leaves_names, leaves_scope, names, names_view, naming_pass, note, takes_fixed, takes_high, takes_low, takes_name, takes_names, takes_number, uses_name, with_bound, without_bound};
+ghost use Rattle.tdcc_reader.specs.NamingPass.{resolves_declaration, known_view, resolves_skipped, resolves_scope_end, naming_state, names_view, naming_pass, note, resolves_fixed, resolves_high, resolves_low, resolves_name, resolves_matched, resolves_number, uses_name, with_bound, without_bound};
 ghost use Rattle.tdcc_reader.specs.Passes.{over_steps};
 ghost use Rattle.tdcc_reader.specs.Refusals.{RefusesNames};
-ghost use Rattle.tdcc_reader.specs.Scope.{any_use, double_fault, kind_of, number_fault, program_fault, signal_fault, unknown_fault};
+ghost use Rattle.tdcc_reader.specs.Scope.{any_use, double_fault, kind_in_scope, number_fault, program_fault, signal_fault, unknown_fault};
 ghost use Rattle.tdcc_reader.specs.TermViews.{term_view};
 
 use crate::fault::ReadFault;
@@ -48,7 +48,7 @@ struct Naming<'a> {
 
 /// The kind of a name's cell, where it is in scope.
 fn kind_of<'a>(scope: &Scope<'a, Kind>, name: &'a [u8]) -> Option<Kind>
-    ensures { result ≡ kind_of (map known_view scope.now) name.now }
+    ensures { result ≡ kind_in_scope (map known_view scope.now) name.now }
 {
     scope.meaning(name)
 }
@@ -102,14 +102,14 @@ impl<'a> Naming<'a> {
     }
 
     fn deny_name(&mut self, lexeme: u32, name: &'a [u8])
-        ensures { names_view self.new ≡ takes_name lexeme StackSymbol.DeniedName name.now (names_view self.old) }
+        ensures { names_view self.new ≡ resolves_name lexeme StackSymbol.DeniedName name.now (names_view self.old) }
     {
         let kind = kind_of(&self.scope, name);
         self.note(unknown(kind, lexeme).or(no_signal(kind, lexeme)));
     }
 
     fn clash_name(&mut self, lexeme: u32, name: &'a [u8])
-        ensures { names_view self.new ≡ takes_name lexeme StackSymbol.ClashingName name.now (names_view self.old) }
+        ensures { names_view self.new ≡ resolves_name lexeme StackSymbol.ClashingName name.now (names_view self.old) }
     {
         let kind = kind_of(&self.scope, name);
         self.note(unknown(kind, lexeme));
@@ -134,7 +134,7 @@ impl<'a> Naming<'a> {
     }
 
     fn declare(&mut self, kind: Kind, lexeme: u32, name: &'a [u8]) -> Result<(), AllocError>
-        ensures { OnOk result (names_view self.new ≡ declares kind lexeme name.now (names_view self.old)) }
+        ensures { OnOk result (names_view self.new ≡ resolves_declaration kind lexeme name.now (names_view self.old)) }
     {
         if kind_of(&self.scope, name).is_some() {
             self.note(Some(NameFault::DoubleName(lexeme)));
@@ -143,14 +143,14 @@ impl<'a> Naming<'a> {
         Ok(())
     }
 
-    fn take_low(&mut self, lexeme: u32, value: i64)
-        ensures { names_view self.new ≡ takes_low lexeme value (names_view self.old) }
+    fn match_low(&mut self, lexeme: u32, value: i64)
+        ensures { names_view self.new ≡ resolves_low lexeme value (names_view self.old) }
     {
         self.waiting = Waiting::Low(value, lexeme);
     }
 
-    fn take_high(&mut self, high: i64)
-        ensures { names_view self.new ≡ takes_high self.old.waiting high (names_view self.old) }
+    fn match_high(&mut self, high: i64)
+        ensures { names_view self.new ≡ resolves_high self.old.waiting high (names_view self.old) }
     {
         if let Waiting::Low(low, lexeme) = self.waiting {
             if high < low {
@@ -160,14 +160,14 @@ impl<'a> Naming<'a> {
         }
     }
 
-    fn leave_scope(&mut self)
-        ensures { names_view self.new ≡ leaves_scope (names_view self.old) }
+    fn skip_scope(&mut self)
+        ensures { names_view self.new ≡ resolves_scope_end (names_view self.old) }
     {
         self.scope.leave();
     }
 
-    fn take_name(&mut self, lexeme: u32, part: StackSymbol, name: &'a [u8]) -> Result<(), AllocError>
-        ensures { OnOk result (names_view self.new ≡ takes_name lexeme part name.now (names_view self.old)) }
+    fn match_name(&mut self, lexeme: u32, part: StackSymbol, name: &'a [u8]) -> Result<(), AllocError>
+        ensures { OnOk result (names_view self.new ≡ resolves_name lexeme part name.now (names_view self.old)) }
     {
         match part {
             StackSymbol::OneUnit | StackSymbol::OneToken => self.use_name(lexeme, name),
@@ -182,18 +182,18 @@ impl<'a> Naming<'a> {
         Ok(())
     }
 
-    fn take_number(&mut self, lexeme: u32, part: StackSymbol, value: i64)
-        ensures { names_view self.new ≡ takes_number lexeme part value (names_view self.old) }
+    fn match_number(&mut self, lexeme: u32, part: StackSymbol, value: i64)
+        ensures { names_view self.new ≡ resolves_number lexeme part value (names_view self.old) }
     {
         match part {
-            StackSymbol::LowNumber => self.take_low(lexeme, value),
-            StackSymbol::HighNumber => self.take_high(value),
+            StackSymbol::LowNumber => self.match_low(lexeme, value),
+            StackSymbol::HighNumber => self.match_high(value),
             _ => {}
         }
     }
 
-    fn take_fixed(&mut self, part: StackSymbol)
-        ensures { names_view self.new ≡ takes_fixed part (names_view self.old) }
+    fn match_fixed(&mut self, part: StackSymbol)
+        ensures { names_view self.new ≡ resolves_fixed part (names_view self.old) }
     {
         if let StackSymbol::Bound = part {
             self.with_bound();
@@ -201,23 +201,23 @@ impl<'a> Naming<'a> {
     }
 
     fn take(&mut self, lexeme: u32, part: StackSymbol, term: Term<'a>) -> Result<(), AllocError>
-        ensures { OnOk result (names_view self.new ≡ takes_names lexeme part (term_view term.entry) (names_view self.old)) }
+        ensures { OnOk result (names_view self.new ≡ resolves_matched lexeme part (term_view term.entry) (names_view self.old)) }
     {
         match term {
-            Term::Name(name) => self.take_name(lexeme, part, name)?,
-            Term::Number(value) => self.take_number(lexeme, part, value),
-            Term::Keyword(_) => self.take_fixed(part),
-            Term::Symbol(_) => self.take_fixed(part),
+            Term::Name(name) => self.match_name(lexeme, part, name)?,
+            Term::Number(value) => self.match_number(lexeme, part, value),
+            Term::Keyword(_) => self.match_fixed(part),
+            Term::Symbol(_) => self.match_fixed(part),
         }
         Ok(())
     }
 
     fn leave(&mut self, part: StackSymbol)
-        ensures { names_view self.new ≡ leaves_names part (names_view self.old) }
+        ensures { names_view self.new ≡ resolves_skipped part (names_view self.old) }
     {
         match part {
             StackSymbol::Bound => self.without_bound(),
-            StackSymbol::EndLocal => self.leave_scope(),
+            StackSymbol::EndLocal => self.skip_scope(),
             _ => {}
         }
     }
@@ -229,7 +229,7 @@ fn first_fault(
     terms: &[Term<'_>],
     steps: &[Step],
 ) -> Result<Option<NameFault>, AllocError>
-    ensures { IfOk result (λ found. found ≡ (over_steps naming_pass (map term_view terms.now) steps.now (names [] Waiting.Nothing None)).found) }
+    ensures { IfOk result (λ found. found ≡ (over_steps naming_pass (map term_view terms.now) steps.now (naming_state [] Waiting.Nothing None)).found) }
 {
     let mut naming = Naming {
         scope: Scope::new(alloc),

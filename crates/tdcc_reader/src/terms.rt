@@ -5,7 +5,7 @@ ghost use Rattle.program_lexemes.specs.Forms.{kind_of};
 ghost use Rattle.program_lexemes.specs.Lexemes.{IsIn, bytes_of_lexeme};
 ghost use Rattle.program_lexemes.specs.Numbers.{is_long};
 ghost use Rattle.program_lexemes.specs.declared.bytes.TextForm.{TextForm};
-ghost use Rattle.tdcc_reader.specs.Sayings.{keyword_term, says, symbol_term, terms_of, too_long};
+ghost use Rattle.tdcc_reader.specs.LexemeTerms.{keyword_term, term_of_lexeme, symbol_term, terms_of, too_long};
 ghost use Rattle.tdcc_reader.specs.TermViews.{term_view};
 
 use program_grammar::Word;
@@ -86,7 +86,7 @@ fn symbol_word(symbol: Symbol) -> Word
 
 /// What the bytes of a keyword say.
 fn keyword_says<'a>(bytes: &'a [u8]) -> Term<'a>
-    ensures { term_view result ≡ says LexKind.Keyword bytes.now }
+    ensures { term_view result ≡ term_of_lexeme LexKind.Keyword bytes.now }
 {
     match keyword_of(bytes) {
         Some(keyword) => Term::Keyword(keyword),
@@ -96,7 +96,7 @@ fn keyword_says<'a>(bytes: &'a [u8]) -> Term<'a>
 
 /// What the bytes of a symbol say.
 fn symbol_says<'a>(bytes: &'a [u8]) -> Term<'a>
-    ensures { term_view result ≡ says LexKind.Symbol bytes.now }
+    ensures { term_view result ≡ term_of_lexeme LexKind.Symbol bytes.now }
 {
     match symbol_of(bytes) {
         Some(symbol) => Term::Symbol(symbol),
@@ -108,7 +108,7 @@ fn symbol_says<'a>(bytes: &'a [u8]) -> Term<'a>
 fn says<'a>(kind: LexKind, bytes: &'a [u8]) -> Term<'a>
     requires is { (form : TextForm) × (kind_of form bytes.now ≡ Some kind) }
     requires short { is_long kind bytes.now ≡ false }
-    ensures { term_view result ≡ says kind bytes.now }
+    ensures { term_view result ≡ term_of_lexeme kind bytes.now }
 {
     kinds_law();
     match kind {

@@ -1,7 +1,7 @@
 use Rattle.std.proofs.Common.{ap, sym}
 use Rattle.std.specs.Prelude.{option_map, unwrap_or}
 use Rattle.program_grammar.specs.Terms.{Skip}
-use Rattle.tdcc_reader.specs.Sayings.{keyword_term}
+use Rattle.tdcc_reader.specs.LexemeTerms.{keyword_term}
 use Rattle.tdcc_reader.proofs.Sayings.{keyword_found, keyword_none}
 use Rattle.tdcc_reader.proofs.terms.keyword_says.Goals as goal
 

@@ -1,7 +1,7 @@
 use Rattle.std.proofs.Common.{ap, sym}
 use Rattle.std.specs.Prelude.{option_map, unwrap_or}
 use Rattle.program_grammar.specs.Terms.{Skip}
-use Rattle.tdcc_reader.specs.Sayings.{symbol_term}
+use Rattle.tdcc_reader.specs.LexemeTerms.{symbol_term}
 use Rattle.tdcc_reader.proofs.Sayings.{symbol_found, symbol_none}
 use Rattle.tdcc_reader.proofs.terms.symbol_says.Goals as goal
 

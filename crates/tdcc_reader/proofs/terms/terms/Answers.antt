@@ -1,7 +1,7 @@
 use Rattle.std.proofs.Common.{ap, sym, ◌∙◌}
 use Rattle.std.proofs.lemmas.List.{take_all}
 use Rattle.program_lexemes.specs.Numbers.{is_long}
-use Rattle.tdcc_reader.specs.Sayings.{too_long, terms_of}
+use Rattle.tdcc_reader.specs.LexemeTerms.{too_long, terms_of}
 use Rattle.tdcc_reader.proofs.Places.{first_here, nowhere}
 use Rattle.tdcc_reader.proofs.terms.terms.Goals as goal
 

@@ -1,7 +1,7 @@
 use Rattle.std.proofs.Common.{◌≡◌, take, drop}
 use Rattle.std.specs.Prelude.{map}
 use Rattle.std.specs.List.{position_from}
-use Rattle.tdcc_reader.specs.Sayings.{terms_of, too_long}
+use Rattle.tdcc_reader.specs.LexemeTerms.{terms_of, too_long}
 use Rattle.tdcc_reader.specs.TermViews.{term_view}
 use Rattle.tdcc_reader.proofs.terms.terms.Given as goal
 

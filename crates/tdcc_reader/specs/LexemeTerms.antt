@@ -57,17 +57,17 @@ keyword_with bytes = find (λ k. bytes_eq bytes (keyword_bytes k)) keywords
 abbrev pub symbol_with : List ℕ → Option Symbol
 symbol_with bytes = find (λ s. bytes_eq bytes (symbol_bytes s)) symbols
 
--- What a lexeme of this kind with these bytes says. Each keyword and each symbol has a term of its own; the bytes of no
+-- What a lexeme of this kind with these bytes term_of_lexeme. Each keyword and each symbol has a term of its own; the bytes of no
 -- keyword and of no symbol stand for `skip`, and no lexeme of these kinds has such bytes.
-abbrev pub says : LexKind → List ℕ → Term
-says kind.Name bytes = Name bytes
-says kind.Keyword bytes = unwrap_or (option_map keyword_term (keyword_with bytes)) Skip
-says kind.Number bytes = Number (value_of_number bytes)
-says kind.Symbol bytes = unwrap_or (option_map symbol_term (symbol_with bytes)) Skip
+abbrev pub term_of_lexeme : LexKind → List ℕ → Term
+term_of_lexeme kind.Name bytes = Name bytes
+term_of_lexeme kind.Keyword bytes = unwrap_or (option_map keyword_term (keyword_with bytes)) Skip
+term_of_lexeme kind.Number bytes = Number (value_of_number bytes)
+term_of_lexeme kind.Symbol bytes = unwrap_or (option_map symbol_term (symbol_with bytes)) Skip
 
 -- the term of a lexeme of the text
 abbrev pub term_of : List ℕ → Lexeme → Term
-term_of text l = says l.kind (bytes_of_lexeme text l)
+term_of text l = term_of_lexeme l.kind (bytes_of_lexeme text l)
 
 -- the terms of lexemes of the text
 abbrev pub terms_of : List ℕ → List Lexeme → List Term

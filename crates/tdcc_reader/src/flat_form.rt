@@ -1,6 +1,6 @@
 // Forms while they are read.
 ghost use Rattle.std.specs.Prelude.{◌≡◌, ◌+◌, All, IfOk, map};
-ghost use Rattle.tdcc_reader.specs.Drafts.{HasAsk, IsWholeDraft, draft_view, form_at, forms_at, link};
+ghost use Rattle.tdcc_reader.specs.FlatForms.{HasAsk, IsWholeFlatForm, flat_form_view, form_at, forms_at, link};
 
 use crate::surface::Form;
 use agent_core::Constraint;
@@ -9,7 +9,7 @@ use token_system::Token;
 
 /// What a form is, without its constraint. The body of a form, and the left part of a par, stand right behind it.
 #[derive(Clone, Copy, Debug, PartialEq, Eq)]
-pub(crate) enum DraftKind {
+pub(crate) enum FlatFormKind {
     Skip,
     Tell,
     Then,
@@ -27,8 +27,8 @@ pub(crate) enum DraftKind {
 
 /// A form without its number, and with the tokens of its constraint, if it has one.
 #[derive(Debug, Drop)]
-pub(crate) struct Draft {
-    pub(crate) kind: DraftKind,
+pub(crate) struct FlatForm {
+    pub(crate) kind: FlatFormKind,
     pub(crate) ask: Vec<(u32, Token)>,
 }
 
@@ -39,55 +39,55 @@ fn link(at: usize, behind: usize) -> u32
     u32::try_from(at.saturating_add(behind)).unwrap_or(u32::MAX)
 }
 
-/// The form of a draft that has this number.
-fn form_at(at: usize, kind: DraftKind, ask: Vec<(u32, Token)>) -> Form
+/// The form of a flat_form that has this number.
+fn form_at(at: usize, kind: FlatFormKind, ask: Vec<(u32, Token)>) -> Form
     requires { HasAsk kind ask.items }
     ensures { result ≡ form_at at kind ask.items }
 {
     let body = link(at, 1);
     match kind {
-        DraftKind::Skip => Form::Skip,
-        DraftKind::Tell => Form::Tell(Constraint::make(ask)),
-        DraftKind::Then => Form::Then {
+        FlatFormKind::Skip => Form::Skip,
+        FlatFormKind::Tell => Form::Tell(Constraint::make(ask)),
+        FlatFormKind::Then => Form::Then {
             ask: Constraint::make(ask),
             body,
         },
-        DraftKind::Else => Form::Else {
+        FlatFormKind::Else => Form::Else {
             ask: Constraint::make(ask),
             body,
         },
-        DraftKind::Par(right) => Form::Par {
+        FlatFormKind::Par(right) => Form::Par {
             left: body,
             right: link(at, right),
         },
-        DraftKind::New(cell) => Form::New { cell, body },
-        DraftKind::Hence => Form::Hence { body },
-        DraftKind::Next => Form::Next { body },
-        DraftKind::Always => Form::Always { body },
-        DraftKind::When => Form::When {
+        FlatFormKind::New(cell) => Form::New { cell, body },
+        FlatFormKind::Hence => Form::Hence { body },
+        FlatFormKind::Next => Form::Next { body },
+        FlatFormKind::Always => Form::Always { body },
+        FlatFormKind::When => Form::When {
             ask: Constraint::make(ask),
             body,
         },
-        DraftKind::Watch => Form::Watch {
+        FlatFormKind::Watch => Form::Watch {
             body,
             stop: Constraint::make(ask),
         },
-        DraftKind::Time => Form::Time {
+        FlatFormKind::Time => Form::Time {
             body,
             clock: Constraint::make(ask),
         },
     }
 }
 
-/// The forms of the drafts, numbered from 0.
-pub(crate) fn forms(alloc: Global, drafts: &[Draft]) -> Result<Vec<Form>, AllocError>
-    requires { All IsWholeDraft drafts.now }
-    ensures { IfOk result (λ forms. forms.items ≡ forms_at 0 (map draft_view drafts.now)) }
+/// The forms of the flat_forms, numbered from 0.
+pub(crate) fn forms(alloc: Global, flat_forms: &[FlatForm]) -> Result<Vec<Form>, AllocError>
+    requires { All IsWholeFlatForm flat_forms.now }
+    ensures { IfOk result (λ forms. forms.items ≡ forms_at 0 (map flat_form_view flat_forms.now)) }
 {
     let mut forms = Vec::new(alloc);
-    for (at, draft) in drafts.iter().enumerate() {
-        let ask = draft.ask.as_slice().to_vec(alloc)?;
-        forms.push(form_at(at, draft.kind, ask))?;
+    for (at, flat_form) in flat_forms.iter().enumerate() {
+        let ask = flat_form.ask.as_slice().to_vec(alloc)?;
+        forms.push(form_at(at, flat_form.kind, ask))?;
     }
     Ok(forms)
 }

@@ -1,9 +1,9 @@
 use Rattle.std.proofs.Common.{◌≡◌, ◌+◌, ◌-◌, length, reverse, ap, sym, ◌∙◌, arith}
-use Rattle.tdcc_reader.specs.declared.draft.DraftKind.TheVariants.{Par}
-use Rattle.tdcc_reader.specs.Drafts.{entry}
-use Rattle.tdcc_reader.specs.Growing.{paired}
+use Rattle.tdcc_reader.specs.declared.flat_form.FlatFormKind.TheVariants.{Par}
+use Rattle.tdcc_reader.specs.FlatForms.{entry}
+use Rattle.tdcc_reader.specs.OpenForms.{paired}
 use Rattle.tdcc_reader.proofs.Arranging.{begin_keeps, last_open, next_arranged, wrap_keeps}
-use Rattle.tdcc_reader.proofs.arrivals.Arrivals.next_unit.Goals as goal
+use Rattle.tdcc_reader.proofs.insertions.Insertions.next_unit.Goals as goal
 
 pub invariant_of-self-in-Continue-branch-2 : goal.invariant_of-self-in-Continue-branch-2
 invariant_of-self-in-Continue-branch-2 c =

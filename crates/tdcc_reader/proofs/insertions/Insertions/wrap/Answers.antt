@@ -1,6 +1,6 @@
 use Rattle.std.proofs.Common.{reverse}
 use Rattle.tdcc_reader.proofs.Arranging.{last_open, wrap_keeps}
-use Rattle.tdcc_reader.proofs.arrivals.Arrivals.wrap.Goals as goal
+use Rattle.tdcc_reader.proofs.insertions.Insertions.wrap.Goals as goal
 
 pub invariant_of-self : goal.invariant_of-self
 invariant_of-self c =
