@@ -91,7 +91,7 @@ core_is_program text phrase p a is =
       tree = (is.agent, is.nodes);
       locals = ap (filter_map cell_of) is.nodes ∙ news_listed 0 is.agent ∙ news_tree is.agent ∙ ap new_cells is.tree ∙ program_counted phrase ∙ ap (λ k. count_up k (length (local_cells phrase))) (sym is.declared) ∙ ap (count_up p.declared) local;
       scoped = subst (Scoped p []) (sym (root_tree p.nodes (is.agent, is.nodes)))
-          (agent_scoped p p refl refl is.agent [] (subst (laws.Scoped p []) (sym is.tree) (program_scoped form.Core dialect.Core phrase p is.cells is.declared (accepted_fit dialect.Core text phrase a.accepts) a.accepts.within a.accepts.named)));
+          (agent_scoped p p refl refl is.agent [] (subst (laws.IsScopedTree p []) (sym is.tree) (program_scoped form.Core dialect.Core phrase p is.cells is.declared (accepted_fit dialect.Core text phrase a.accepts) a.accepts.within a.accepts.named)));
       limits = record { few_nodes = omega arith; few_cells = omega arith; few_declared = omega arith; within = omega arith };
     }
 

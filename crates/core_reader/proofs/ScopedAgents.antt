@@ -26,7 +26,7 @@ module _ (p q : CoreProgram) (cells : p.cells ≡ q.cells) (declared : p.declare
   constraint_in : (locals : List ℕ) (ask : Constraint) → IsConstraint p locals ask → IsConstraint q locals ask
   constraint_in locals ask is = record { some = is.some; few = is.few; tokens = all_in_scope locals ask is.tokens }
 
-  pub agent_scoped : (a : Agent) (locals : List ℕ) → surface.Scoped p locals (tree_of a) → Scoped q locals a
+  pub agent_scoped : (a : Agent) (locals : List ℕ) → surface.IsScopedTree p locals (tree_of a) → Scoped q locals a
   agent_scoped Skip locals s = tt
   agent_scoped (Tell c) locals s = constraint_in locals c s
   agent_scoped (Then c a) locals s = (constraint_in locals c s.0, agent_scoped a locals s.1)

@@ -11,7 +11,7 @@ use Rattle.tdcc_reader.specs.Surfaces.{SurfaceProgram}
 use Rattle.tdcc_reader.specs.Texts.{IsSurface}
 use Rattle.tdcc_reader.specs.Trees as tree
 use Rattle.tdcc_reader.specs.Trees.{Tree}
-use Rattle.surface_laws.specs.Surfaces.{IsWellFormed, new_cells}
+use Rattle.surface_laws.specs.Surfaces.{IsWellFormedSurface, new_cells}
 use Rattle.surface_laws.proofs.WellFormed.{surface_formed}
 use Rattle.expansion_laws.specs.Sketches.{Sketch, Skip, Tell, Then, Else, Par, New, Hence, Next, size, marks}
 use Rattle.expansion_laws.specs.Table.{guarded, clocked, when, watching, timed, always}

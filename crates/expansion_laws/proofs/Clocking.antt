@@ -10,7 +10,7 @@ use Rattle.agent_core.specs.Facts.{AreInScope}
 use Rattle.agent_core.specs.Programs.{CoreProgram}
 use Rattle.agent_core.specs.Strata.{Each}
 use Rattle.tdcc_reader.specs.Trees.{Tree, Time}
-use Rattle.surface_laws.specs.Surfaces.{Scoped}
+use Rattle.surface_laws.specs.Surfaces.{IsScopedTree}
 use Rattle.expansion_laws.specs.Sketches.{Sketch, Skip, Tell, Then, Else, Par, New, Hence, Next}
 use Rattle.expansion_laws.specs.Numbering.{Placed, placed, cell_of, ask_of}
 use Rattle.expansion_laws.specs.Table.{on, when, clocked, timed}
@@ -147,7 +147,7 @@ module _ (ms : List ℕ) (floor : ℕ) where
       go (inr among) = inr among
 
 -- in the sketch of a tree each tell that stems from a form inside this time is on the clock
-pub tree_clocks : (q : CoreProgram) (cells : ℕ) (ms : List ℕ) (tree : Tree) (m : ℕ) (a : Tree) (c : Constraint) → Scoped q [] tree → ((mark : ℕ) → IsKnown q.declared [] mark → Reads ms q.declared [] mark) → Contains (parts 0 tree) (part m (Time a c))
+pub tree_clocks : (q : CoreProgram) (cells : ℕ) (ms : List ℕ) (tree : Tree) (m : ℕ) (a : Tree) (c : Constraint) → IsScopedTree q [] tree → ((mark : ℕ) → IsKnown q.declared [] mark → Reads ms q.declared [] mark) → Contains (parts 0 tree) (part m (Time a c))
     → EachTell ms (Has cells ms (IsBelow m (Time a c)) (IsClocked ms q.declared c)) (way [] [] []) (sketch_of cells 0 tree)
 tree_clocks q cells ms tree m a c scoped read k =
     let In = IsBelow m (Time a c) in

@@ -19,7 +19,7 @@ use Rattle.agent_laws.proofs.Eachs.{Each-map, each_all}
 use Rattle.program_lexemes.specs.declared.bytes.TextForm.{TextForm}
 use Rattle.tdcc_reader.specs.Surfaces.{SurfaceProgram}
 use Rattle.tdcc_reader.specs.Trees.{Tree, Tell, Watch, Time, form_count, form_listing}
-use Rattle.surface_laws.specs.Surfaces.{Scoped, bare, IsWellFormed}
+use Rattle.surface_laws.specs.Surfaces.{IsScopedTree, bare, IsWellFormedSurface}
 use Rattle.expansion_laws.specs.Sketches.{Sketch, origins, marks}
 use Rattle.expansion_laws.specs.Numbering.{Placed, ask_of}
 use Rattle.expansion_laws.specs.Expanding.{sketch_of}
@@ -106,8 +106,8 @@ module _ (p : CoreProgram) (is : IsProgram p) (k form_count : ℕ) (cells births
       go false r = local known r
 
 -- the constraints of a well-formed surface are in scope, as its tree has them
-pub in_scope_there : (form : TextForm) (s : SurfaceProgram) (tree : Tree) → IsWellFormed form s → s.forms ≡ form_listing 0 tree → Scoped (bare s) [] tree
-in_scope_there form s tree well forms = subst (λ (t : Tree). Scoped (bare s) [] t) (one_tree well.tree tree (sym well.forms ∙ forms)) well.scoped
+pub in_scope_there : (form : TextForm) (s : SurfaceProgram) (tree : Tree) → IsWellFormedSurface form s → s.forms ≡ form_listing 0 tree → IsScopedTree (bare s) [] tree
+in_scope_there form s tree well forms = subst (λ (t : Tree). IsScopedTree (bare s) [] t) (one_tree well.tree tree (sym well.forms ∙ forms)) well.scoped
 
 -- LEAVES
 
@@ -165,7 +165,7 @@ module _ (s : SurfaceProgram) (p : CoreProgram) (is : IsProgram p) (same : p.dec
         (Each-map (λ (pair : ℕ × Token). IsKnown p.declared (cells_of g.older) pair.0) (λ (pair : ℕ × Token). name_of p g.births pair.0 ≡ name_of p l.births pair.0) (λ pair h. named pair.0 h) g.ask known);
   }
 
-pub clocked_leaves : (s : SurfaceProgram) (tree : Tree) (p : CoreProgram) → IsProgram p → Scoped (bare s) [] tree → IsProgramOf s (sketch_of (length s.cells) 0 tree) p
+pub clocked_leaves : (s : SurfaceProgram) (tree : Tree) (p : CoreProgram) → IsProgram p → IsScopedTree (bare s) [] tree → IsProgramOf s (sketch_of (length s.cells) 0 tree) p
     → TellsAreClocked s tree (sketch_of (length s.cells) 0 tree) p
 clocked_leaves s tree p is scoped made m a c z l at inside =
     let cells = length s.cells in
@@ -175,7 +175,7 @@ clocked_leaves s tree p is scoped made m a c z l at inside =
     let there = inside_has s tree p made m a (Time a c) refl (IsClocked ms s.declared c) each z l inside in
     on_clock s p is made.declared ms c there.0 l there.1 there.2 d refl
 
-pub stemming_leaves : (s : SurfaceProgram) (tree : Tree) (p : CoreProgram) → Scoped (bare s) [] tree → IsProgramOf s (sketch_of (length s.cells) 0 tree) p → TellsStem s tree (sketch_of (length s.cells) 0 tree) p
+pub stemming_leaves : (s : SurfaceProgram) (tree : Tree) (p : CoreProgram) → IsScopedTree (bare s) [] tree → IsProgramOf s (sketch_of (length s.cells) 0 tree) p → TellsStem s tree (sketch_of (length s.cells) 0 tree) p
 stemming_leaves s tree p scoped made z l ask leaf tells =
     let cells = length s.cells in
     let d = sketch_of cells 0 tree in

@@ -7,7 +7,7 @@ use Rattle.agent_core.specs.Leaves.{Guard}
 use Rattle.agent_core.specs.Facts.{IsAmong}
 use Rattle.agent_core.specs.Programs.{CoreProgram}
 use Rattle.tdcc_reader.specs.Trees.{Tree, Skip, Tell, Then, Else, Par, New, Hence, Next, Always, When, Watch, Time, form_count}
-use Rattle.surface_laws.specs.Surfaces.{Scoped}
+use Rattle.surface_laws.specs.Surfaces.{IsScopedTree}
 use Rattle.expansion_laws.specs.Numbering.{cell_of, ask_of}
 use Rattle.expansion_laws.specs.Table.{on}
 use Rattle.expansion_laws.specs.Expanding.{sketch_of}
@@ -62,7 +62,7 @@ module _ (q : CoreProgram) (cells : ℕ) (ms : List ℕ) (whole : List Part) whe
   behind n t rest all y k = all y (later_in (part n t) y rest k)
 
   -- each tell of the sketch of a tree whose forms are among those of the whole stems from one of them
-  pub tells_stem : (t : Tree) (locals : List ℕ) (n : ℕ) → AreThere (parts n t) → Scoped q locals t → (w : Way) → IsValid ms q.declared locals w → EachTell ms Stemming w (sketch_of cells n t)
+  pub tells_stem : (t : Tree) (locals : List ℕ) (n : ℕ) → AreThere (parts n t) → IsScopedTree q locals t → (w : Way) → IsValid ms q.declared locals w → EachTell ms Stemming w (sketch_of cells n t)
   tells_stem Skip locals n all s w v = tt
   tells_stem (Tell b) locals n all s w v =
       let reads = in_scope ms q.declared q locals w refl v b s.tokens in

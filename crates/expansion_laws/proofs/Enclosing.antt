@@ -6,7 +6,7 @@ use Rattle.agent_core.specs.Agents.{Constraint}
 use Rattle.agent_core.specs.Leaves.{Guard}
 use Rattle.agent_core.specs.Programs.{CoreProgram}
 use Rattle.tdcc_reader.specs.Trees.{Tree, Skip, Tell, Then, Else, Par, New, Hence, Next, Always, When, Watch, Time, form_count}
-use Rattle.surface_laws.specs.Surfaces.{Scoped}
+use Rattle.surface_laws.specs.Surfaces.{IsScopedTree}
 use Rattle.expansion_laws.specs.Numbering.{placed}
 use Rattle.expansion_laws.specs.Expanding.{sketch_of}
 use Rattle.expansion_laws.specs.Origins.{Part, part, parts}
@@ -91,7 +91,7 @@ module _ (cells : ℕ) (ms : List ℕ) (floor m : ℕ) (x : Tree) (G : Way → T
     pub from : n ≤ m
     pub to : m + form_count x ≤ n + form_count t
     pub around : List ℕ
-    pub scoped : (p : CoreProgram) → Scoped p locals t → Scoped p around x
+    pub scoped : (p : CoreProgram) → IsScopedTree p locals t → IsScopedTree p around x
     pub each : Holds around x m → Holds locals t n
 
   -- it is the tree itself
@@ -103,12 +103,12 @@ module _ (cells : ℕ) (ms : List ℕ) (floor m : ℕ) (x : Tree) (G : Way → T
         from = omega arith;
         to = omega arith;
         around = locals;
-        scoped = λ p. subst (λ (y : Part). Scoped p locals t → Scoped p locals y.tree) e (λ s. s);
+        scoped = λ p. subst (λ (y : Part). IsScopedTree p locals t → IsScopedTree p locals y.tree) e (λ s. s);
         each = subst (λ (y : Part). Holds locals y.tree y.number → Holds locals t n) e (λ h. h);
       }
 
   -- it stands in the only part of the tree
-  one_body : (locals inner : List ℕ) (t a : Tree) (n : ℕ) → form_count t ≡ suc (form_count a) → ((p : CoreProgram) → Scoped p locals t → Scoped p inner a) → (Holds inner a (suc n) → Holds locals t n)
+  one_body : (locals inner : List ℕ) (t a : Tree) (n : ℕ) → form_count t ≡ suc (form_count a) → ((p : CoreProgram) → IsScopedTree p locals t → IsScopedTree p inner a) → (Holds inner a (suc n) → Holds locals t n)
       → Stands inner a (suc n) → Stands locals t n
   one_body locals inner t a n long scoped each s = let from = s.from in let to = s.to in record {
     from = omega arith;

@@ -9,7 +9,7 @@ use Rattle.agent_core.specs.Strata.{Each}
 use Rattle.agent_core.proofs.Standing.{stands-head}
 use Rattle.agent_laws.proofs.Eachs.{Each-parts}
 use Rattle.tdcc_reader.specs.Trees.{Tree, Skip, Tell, Then, Else, Par, New, Hence, Next, Always, When, Watch, Time, form_count}
-use Rattle.surface_laws.specs.Surfaces.{Scoped, bare, new_cells}
+use Rattle.surface_laws.specs.Surfaces.{IsScopedTree, bare, new_cells}
 use Rattle.expansion_laws.specs.Numbering.{Placed, placed}
 use Rattle.expansion_laws.specs.Table.{watching}
 use Rattle.expansion_laws.specs.Expanding.{sketch_of}
@@ -107,7 +107,7 @@ module _ (x : Trail) (y : Aim x) where
 
   -- wherever a walk stands at the sketch of the tree, it goes on to a copy
   abbrev Finds : Tree → ℕ → Type 0
-  Finds t n = (locals : List ℕ) (r : Spot) → Leading r t n → Scoped (bare x.surface) locals t → Seen locals r.scope → AreBelow cells (new_cells t) → Found
+  Finds t n = (locals : List ℕ) (r : Spot) → Leading r t n → IsScopedTree (bare x.surface) locals t → Seen locals r.scope → AreBelow cells (new_cells t) → Found
 
   -- the same of a part of a par, as its clause hands it on
   abbrev Finds_part : List ℕ → Tree → ℕ → Type 0

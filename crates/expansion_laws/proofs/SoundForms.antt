@@ -10,7 +10,7 @@ use Rattle.agent_core.specs.Strata.{Each}
 use Rattle.tdcc_reader.specs.Surfaces.{SurfaceProgram}
 use Rattle.tdcc_reader.specs.Trees.{Tree, form_count}
 use Rattle.tdcc_reader.specs.Trees as tree
-use Rattle.surface_laws.specs.Surfaces.{bare, Scoped, IsFresh, AreFresh}
+use Rattle.surface_laws.specs.Surfaces.{bare, IsScopedTree, IsFreshName, AreFreshInTree}
 use Rattle.expansion_laws.specs.Sketches.{Sketch, Skip, Tell, Then, Else, Par, New, Hence, Next}
 use Rattle.expansion_laws.specs.Table.{on, when, guarded, watching, clocked}
 use Rattle.expansion_laws.specs.Numbering.{hidden}
@@ -83,7 +83,7 @@ module _ (s : SurfaceProgram) where
       tokens [] are = tt
       tokens (pair ∷ b) are = (meant pair are.0, tokens b are.1)
 
-  cell_new : (locals around : List ℕ) (cell : ℕ) → Widens s.cells locals around → IsFresh (bare s) locals cell → IsNew s.cells s.declared around cell
+  cell_new : (locals around : List ℕ) (cell : ℕ) → Widens s.cells locals around → IsFreshName (bare s) locals cell → IsNew s.cells s.declared around cell
   cell_new locals around cell w fresh within c lt visible same = fresh c (seen visible) same
     where
       local : IsAmong locals c ⊎ (length s.cells ≤ c) → (c < s.declared) ⊎ IsAmong locals c
@@ -98,7 +98,7 @@ module _ (s : SurfaceProgram) where
   past m = omega arith
 
   -- The sketch of a tree in scope is sound.
-  pub sketch_sound : (t : Tree) (m : ℕ) (locals around : List ℕ) → Widens s.cells locals around → Scoped (bare s) locals t → AreFresh (bare s) locals t
+  pub sketch_sound : (t : Tree) (m : ℕ) (locals around : List ℕ) → Widens s.cells locals around → IsScopedTree (bare s) locals t → AreFreshInTree (bare s) locals t
       → Sound s.cells s.declared around (sketch_of (length s.cells) m t)
   sketch_sound tree.Skip m locals around w scoped fresh = tt
   sketch_sound (tree.Tell c) m locals around w scoped fresh = constraint_meant locals around c w.keeps scoped

@@ -12,7 +12,7 @@ use Rattle.agent_core.specs.Rests.{entails}
 use Rattle.agent_core.proofs.ListingTrees.{root_tree}
 use Rattle.tdcc_reader.specs.Surfaces.{SurfaceProgram}
 use Rattle.tdcc_reader.specs.Trees.{Tree}
-use Rattle.surface_laws.specs.Surfaces.{Scoped, bare, new_cells}
+use Rattle.surface_laws.specs.Surfaces.{IsScopedTree, bare, new_cells}
 use Rattle.expansion_laws.specs.Sketches.{Sketch}
 use Rattle.expansion_laws.specs.Numbering.{agent_of}
 use Rattle.expansion_laws.specs.Expanding.{sketch_of}
@@ -62,7 +62,7 @@ module _ (x : Trail) (y : Aim x) (f : Found x y) (program : IsProgram x.program)
         stopped x y f program made.declared within (n - f.spot.start) w
         (output_since outs f.at.leads.front f.spot.stores t n f.spot.start x.output w last (closed ∙ f.at.leads.whole) f.at.leads.long from to found) h
 
-pub stops_for_good : (s : SurfaceProgram) (tree : Tree) (p : CoreProgram) → IsProgram p → s.declared ≤ length s.cells → new_cells tree ≡ count_up s.declared (length s.cells - s.declared) → Scoped (bare s) [] tree
+pub stops_for_good : (s : SurfaceProgram) (tree : Tree) (p : CoreProgram) → IsProgram p → s.declared ≤ length s.cells → new_cells tree ≡ count_up s.declared (length s.cells - s.declared) → IsScopedTree (bare s) [] tree
     → IsProgramOf s (sketch_of (length s.cells) 0 tree) p → StopsForGood s tree (sketch_of (length s.cells) 0 tree) p
 stops_for_good s tree p program within locals scoped made m a c ins outs t v l free run last inside =
     let d = sketch_of (length s.cells) 0 tree in

@@ -16,7 +16,7 @@ use Rattle.tdcc_reader.specs.Surfaces.{SurfaceProgram}
 use Rattle.tdcc_reader.specs.Trees.{Tree}
 use Rattle.core_text.specs.CoreTexts.{name_at}
 use Rattle.core_text.specs.GoodNames.{IsCoreName, AreFresh, HasGoodNames}
-use Rattle.surface_laws.specs.Surfaces.{IsWellFormed}
+use Rattle.surface_laws.specs.Surfaces.{IsWellFormedSurface}
 use Rattle.expansion_laws.specs.Sketches.{Sketch, size, marks}
 use Rattle.expansion_laws.specs.Numbering.{agent_of, hidden, cells_from}
 use Rattle.expansion_laws.specs.Expanding.{sketch_of}
@@ -53,7 +53,7 @@ made s tree = let d : Sketch = sketch_of (length s.cells) 0 tree in record {
   nodes = core.listing 0 (agent_of [] s.declared d);
 }
 
-pub some_expansion : (s : SurfaceProgram) → IsWellFormed Program s → (p : CoreProgram) × IsExpansion s p
+pub some_expansion : (s : SurfaceProgram) → IsWellFormedSurface Program s → (p : CoreProgram) × IsExpansion s p
 some_expansion s is = (
   made s is.tree,
   (
@@ -68,7 +68,7 @@ some_expansion s is = (
 pub nodes_many : (s : SurfaceProgram) (d : Sketch) (p : CoreProgram) → IsProgramOf s d p → length p.nodes ≡ size d
 nodes_many s d p e = ap length e.nodes ∙ length-listing 0 (agent_of [] s.declared d) ∙ size-agent_of [] s.declared d
 
-pub cells_many : (s : SurfaceProgram) (d : Sketch) (p : CoreProgram) → IsWellFormed Program s → IsProgramOf s d p → length p.cells ≡ s.declared + length (marks d)
+pub cells_many : (s : SurfaceProgram) (d : Sketch) (p : CoreProgram) → IsWellFormedSurface Program s → IsProgramOf s d p → length p.cells ≡ s.declared + length (marks d)
 cells_many s d p is e =
     let front : length (take s.declared s.cells) ≡ s.declared = length-take-le s.declared s.cells is.within in
     ap length e.cells
@@ -102,7 +102,7 @@ copied_get cells n (mark ∷ ms) (suc k) d e =
     let (found, same) = copied_get cells (suc n) ms k d e in
     (found, same ∙ ap (copy cells found) (let f : suc n + k ≡ n + suc k = omega arith in f))
 
-module _ (s : SurfaceProgram) (is : IsWellFormed Program s) (d : Sketch) (p : CoreProgram) (e : IsProgramOf s d p) (few_nodes : length p.nodes ≤ 4096) (few_cells : length p.cells ≤ 1024) where
+module _ (s : SurfaceProgram) (is : IsWellFormedSurface Program s) (d : Sketch) (p : CoreProgram) (e : IsProgramOf s d p) (few_nodes : length p.nodes ≤ 4096) (few_cells : length p.cells ≤ 1024) where
   over : IsOver s.cells p
   over = record {
     within = subst (λ (k : ℕ). k ≤ length s.cells) (sym e.declared) is.within;

@@ -6,7 +6,7 @@ use Rattle.agent_core.specs.Agents.{Agent, agent_at}
 use Rattle.agent_core.specs.Programs.{CoreProgram}
 use Rattle.agent_core.specs.Strata.{Each, Meets, agent_edges}
 use Rattle.agent_core.proofs.ListingTrees.{root_tree}
-use Rattle.surface_laws.specs.Surfaces.{IsWellFormed}
+use Rattle.surface_laws.specs.Surfaces.{IsWellFormedSurface}
 use Rattle.surface_laws.proofs.WellFormed.{surface_formed}
 use Rattle.trace_text.specs.Generated.{program_text}
 use Rattle.expansion_laws.specs.Sketches.{Sketch, size, marks}
@@ -24,7 +24,7 @@ use Rattle.generated_laws.proofs.PartStrata.{signal_level, number_level, parts_m
 use Rattle.generated_laws.proofs.Accepted.{text_read, parts_many}
 
 -- the surface is well formed
-formed : (n : ℕ) → IsWellFormed Program (surface n)
+formed : (n : ℕ) → IsWellFormedSurface Program (surface n)
 formed n = surface_formed (surface n) (program_text n, text_read n)
 
 cells_many_declared : length cells ≡ 40

@@ -17,7 +17,7 @@ use Rattle.tdcc_reader.specs.Widths.{constraint_width, unit_width, agent_width, 
 use Rattle.tdcc_reader.specs.Scope.{Known, known, kind_in_scope, double_fault, declared_fault, domain_fault, item_fault, constraint_fault, unit_fault, agent_fault, names_known, names_fault, items_known, items_fault, fault_from, program_fault}
 use Rattle.tdcc_reader.specs.Surfaces.{Placed, placed, Declared, declared_signal, declared_number, cell_view, unit_cells, agent_cells, unit_tree, agent_tree, names_cells, names_scope, items_cells, items_scope, tree_from, program_tree, declared_cells, program_cells}
 use Rattle.tdcc_reader.proofs.Asks.{none_left, none_right}
-use Rattle.surface_laws.specs.Surfaces.{AreFresh}
+use Rattle.surface_laws.specs.Surfaces.{AreFreshInTree}
 use Rattle.surface_laws.proofs.PlacedNames.{seen_behind, whole_more, long_more}
 use Rattle.surface_laws.proofs.ScopedPhrases.{parted, moved, longer}
 use Rattle.surface_laws.proofs.CellNames.{number_name}
@@ -70,11 +70,11 @@ module _ (p : CoreProgram) where
 
   abbrev UnitFresh : UnitPhrase → Type 0
   UnitFresh u = (locals : List ℕ) (names : List Known) (places : List Placed) (front back : List Declared) (n to : ℕ)
-      → map cell_view p.cells ≡ front ++ (unit_cells u ++ back) → length front ≡ n → AreKnown p.declared locals names → unit_fault u names to ≡ None → AreFresh p locals (unit_tree u places n)
+      → map cell_view p.cells ≡ front ++ (unit_cells u ++ back) → length front ≡ n → AreKnown p.declared locals names → unit_fault u names to ≡ None → AreFreshInTree p locals (unit_tree u places n)
 
   abbrev AgentFresh : AgentPhrase → Type 0
   AgentFresh a = (locals : List ℕ) (names : List Known) (places : List Placed) (front back : List Declared) (n to : ℕ)
-      → map cell_view p.cells ≡ front ++ (agent_cells a ++ back) → length front ≡ n → AreKnown p.declared locals names → agent_fault a names to ≡ None → AreFresh p locals (agent_tree a places n)
+      → map cell_view p.cells ≡ front ++ (agent_cells a ++ back) → length front ≡ n → AreKnown p.declared locals names → agent_fault a names to ≡ None → AreFreshInTree p locals (agent_tree a places n)
 
   mutual
     unit_fresh : (u : UnitPhrase) → UnitFresh u
@@ -180,7 +180,7 @@ module _ (p : CoreProgram) where
       (one_apart n names x kind.Number at are here (number_behind front (items_cells is ++ back) x l h n whole long)) behind)
 
   fresh_from : (q : ProgramPhrase) (names : List Known) (places : List Placed) (front : List Declared) (n at : ℕ) → map cell_view p.cells ≡ front ++ program_cells q → length front ≡ n → n + length (declared_cells q) ≡ p.declared
-      → Apart n names → fault_from q names at ≡ None → Distinct p.declared × AreFresh p [] (tree_from q places n)
+      → Apart n names → fault_from q names at ≡ None → Distinct p.declared × AreFreshInTree p [] (tree_from q places n)
   fresh_from (Runs a) names places front n at whole long all are e =
       let last : n ≡ p.declared = omega arith in
       let apart : Apart p.declared names = subst (λ (m : ℕ). Apart m names) last are in
@@ -200,6 +200,6 @@ module _ (p : CoreProgram) where
 
 -- The names of a program's cells are fresh.
 pub program_fresh : (q : ProgramPhrase) (p : CoreProgram) → map cell_view p.cells ≡ program_cells q → p.declared ≡ length (declared_cells q) → program_fault q ≡ None
-    → ((c d : ℕ) → c < d → d < p.declared → name_at p.cells c ≡ name_at p.cells d → ⊥) × AreFresh p [] (program_tree q)
+    → ((c d : ℕ) → c < d → d < p.declared → name_at p.cells c ≡ name_at p.cells d → ⊥) × AreFreshInTree p [] (program_tree q)
 program_fresh q p whole many e =
     fresh_from p q [] [] [] 0 0 whole refl (omega arith) (none_apart p) e

@@ -19,7 +19,7 @@ use Rattle.tdcc_reader.specs.Limits.{first, constraint_limit, unit_limit, agent_
 use Rattle.tdcc_reader.specs.Scope.{Known, known, kind_in_scope, unknown_fault, signal_fault, number_fault, token_fault, constraint_fault, declared_fault, item_fault, unit_fault, agent_fault, names_known, names_fault, items_known, items_fault, fault_from, program_fault}
 use Rattle.tdcc_reader.specs.Surfaces.{Placed, placed, cell_in_scope, Declared, declared_signal, declared_number, cell_view, token_tokens, constraint_of, unit_cells, agent_cells, unit_tree, agent_tree, names_cells, names_scope, items_cells, items_scope, tree_from, program_tree, declared_cells, program_cells}
 use Rattle.tdcc_reader.proofs.Asks.{none_left, none_right, ask_kept, inner}
-use Rattle.surface_laws.specs.Surfaces.{Scoped}
+use Rattle.surface_laws.specs.Surfaces.{IsScopedTree}
 use Rattle.surface_laws.proofs.FitPhrases.{TokenFit, ConstraintFit, UnitFit, AgentFit, ProgramFit}
 use Rattle.surface_laws.proofs.PlacedNames.{IsCellOf, ArePlaced, none_placed, local_placed, whole_more, long_more, names_placed, number_kind, items_placed}
 
@@ -76,19 +76,19 @@ constraint_scoped dialect c p locals names places at to are fit l e =
 abbrev UnitScoped : TextForm → Dialect → UnitPhrase → Type 0
 UnitScoped form dialect u = (p : CoreProgram) (locals : List ℕ) (names : List Known) (places : List Placed) (front back : List Declared) (n d at to : ℕ)
     → map cell_view p.cells ≡ front ++ (unit_cells u ++ back) → length front ≡ n → ArePlaced p locals names places → UnitFit form u → unit_limit dialect u d at ≡ None → unit_fault u names to ≡ None
-    → Scoped p locals (unit_tree u places n)
+    → IsScopedTree p locals (unit_tree u places n)
 
 abbrev AgentScoped : TextForm → Dialect → AgentPhrase → Type 0
 AgentScoped form dialect a = (p : CoreProgram) (locals : List ℕ) (names : List Known) (places : List Placed) (front back : List Declared) (n d at to : ℕ)
     → map cell_view p.cells ≡ front ++ (agent_cells a ++ back) → length front ≡ n → ArePlaced p locals names places → AgentFit form a → agent_limit dialect a d at ≡ None → agent_fault a names to ≡ None
-    → Scoped p locals (agent_tree a places n)
+    → IsScopedTree p locals (agent_tree a places n)
 
 -- an ask and a body behind one term
 asked : (form : TextForm) (dialect : Dialect) (c : ConstraintPhrase) (u : UnitPhrase) → UnitScoped form dialect u → (p : CoreProgram) (locals : List ℕ) (names : List Known) (places : List Placed) (front back : List Declared) (n d at to : ℕ)
     → map cell_view p.cells ≡ front ++ (unit_cells u ++ back) → length front ≡ n → ArePlaced p locals names places → ConstraintFit c × UnitFit form u
     → first (constraint_limit dialect c 0 (at + 1)) (unit_limit dialect u (d + 1) (at + 1 + constraint_width c + 1)) ≡ None
     → first (constraint_fault c names (to + 1)) (unit_fault u names (to + 1 + constraint_width c + 1)) ≡ None
-    → IsConstraint p locals (constraint_of places c) × Scoped p locals (unit_tree u places n)
+    → IsConstraint p locals (constraint_of places c) × IsScopedTree p locals (unit_tree u places n)
 asked form dialect c u ih p locals names places front back n d at to whole long are fit l e = (
   constraint_scoped dialect c p locals names places (at + 1) (to + 1) are fit.0
       (none_left (constraint_limit dialect c 0 (at + 1)) (unit_limit dialect u (d + 1) (at + 1 + constraint_width c + 1)) l) (none_left (constraint_fault c names (to + 1)) (unit_fault u names (to + 1 + constraint_width c + 1)) e),
@@ -101,7 +101,7 @@ ended : (form : TextForm) (dialect : Dialect) (a : AgentPhrase) (c : ConstraintP
     → map cell_view p.cells ≡ front ++ (agent_cells a ++ back) → length front ≡ n → ArePlaced p locals names places → AgentFit form a × ConstraintFit c
     → first (agent_limit dialect a (d + 1) (at + 1)) (constraint_limit dialect c 0 (at + 1 + agent_width a + 1)) ≡ None
     → first (agent_fault a names (to + 1)) (constraint_fault c names (to + 1 + agent_width a + 1)) ≡ None
-    → Scoped p locals (agent_tree a places n) × IsConstraint p locals (constraint_of places c)
+    → IsScopedTree p locals (agent_tree a places n) × IsConstraint p locals (constraint_of places c)
 ended form dialect a c ih p locals names places front back n d at to whole long are fit l e = (
   ih p locals names places front back n (d + 1) (at + 1) (to + 1) whole long are fit.0
       (none_left (agent_limit dialect a (d + 1) (at + 1)) (constraint_limit dialect c 0 (at + 1 + agent_width a + 1)) l) (none_left (agent_fault a names (to + 1)) (constraint_fault c names (to + 1 + agent_width a + 1)) e),
@@ -172,7 +172,7 @@ few_then n b xs ys h = let l = length-append xs ys in omega arith
 
 scoped_from : (form : TextForm) (dialect : Dialect) (q : ProgramPhrase) (p : CoreProgram) (names : List Known) (places : List Placed) (front : List Declared) (n at to : ℕ)
     → map cell_view p.cells ≡ front ++ program_cells q → length front ≡ n → n + length (declared_cells q) ≤ p.declared → ArePlaced p [] names places
-    → ProgramFit form q → limit_from dialect q at ≡ None → fault_from q names to ≡ None → Scoped p [] (tree_from q places n)
+    → ProgramFit form q → limit_from dialect q at ≡ None → fault_from q names to ≡ None → IsScopedTree p [] (tree_from q places n)
 scoped_from form dialect (Runs a) p names places front n at to whole long few are fit l e =
     agent_scoped form dialect a p [] names places front [] n 0 at to (whole ∙ ap (λ k. front ++ k) (sym (append-nil (agent_cells a)))) long are fit l e
 scoped_from form dialect (Signals ns q) p names places front n at to whole long few are fit l e =
@@ -190,5 +190,5 @@ scoped_from form dialect (Ints is q) p names places front n at to whole long few
 
 -- Each constraint of the program is in scope.
 pub program_scoped : (form : TextForm) (dialect : Dialect) (q : ProgramPhrase) (p : CoreProgram) → map cell_view p.cells ≡ program_cells q → p.declared ≡ length (declared_cells q) → ProgramFit form q → program_limit dialect q ≡ None → program_fault q ≡ None
-    → Scoped p [] (program_tree q)
+    → IsScopedTree p [] (program_tree q)
 program_scoped form dialect q p whole many fit l e = scoped_from form dialect q p [] [] [] 0 0 0 whole refl (omega arith) (none_placed p) fit l e

@@ -14,7 +14,7 @@ use Rattle.tdcc_reader.specs.Dialects.{text_form}
 use Rattle.tdcc_reader.specs.Surfaces.{Declared, SurfaceProgram, IsSurfaceOf, cell_view, program_tree, program_cells, declared_cells}
 use Rattle.tdcc_reader.specs.Refusals.{Accepts}
 use Rattle.tdcc_reader.specs.Texts.{ReadsAs, IsSurface}
-use Rattle.surface_laws.specs.Surfaces.{bare, IsWellFormed}
+use Rattle.surface_laws.specs.Surfaces.{bare, IsWellFormedSurface}
 use Rattle.surface_laws.proofs.FitTerms.{terms_fit}
 use Rattle.surface_laws.proofs.FitPhrases.{ProgramFit, fit_program}
 use Rattle.surface_laws.proofs.LocalCells.{local_cells, cells_parted, program_counted}
@@ -41,7 +41,7 @@ cells_named dialect text q s a is n d e =
     (ap (λ (l : List Declared). slice_get l n) (sym is.cells) ∙ slice_get-map cell_view s.cells n ∙ ap (option_map cell_view) e)
 
 -- The surface of a text is well formed.
-pub well_formed : (dialect : Dialect) (text : List ℕ) (s : SurfaceProgram) → ReadsAs dialect text s → IsWellFormed (text_form dialect) s
+pub well_formed : (dialect : Dialect) (text : List ℕ) (s : SurfaceProgram) → ReadsAs dialect text s → IsWellFormedSurface (text_form dialect) s
 well_formed dialect text s (q, a, is) =
     let (distinct, fresh) = program_fresh q (bare s) is.cells is.declared a.named in
     let many = local_many q s is in
@@ -61,5 +61,5 @@ well_formed dialect text s (q, a, is) =
     }
 
 -- So is each surface of a program text.
-pub surface_formed : (s : SurfaceProgram) → IsSurface s → IsWellFormed forms.Program s
+pub surface_formed : (s : SurfaceProgram) → IsSurface s → IsWellFormedSurface forms.Program s
 surface_formed s (text, reads) = well_formed dialects.Program text s reads

@@ -30,47 +30,47 @@ new_cells (Watch a stop) = new_cells a
 new_cells (Time a clock) = new_cells a
 
 -- each constraint of the tree is one of this program, where these local cells are in scope around it
-abbrev pub Scoped : CoreProgram → List ℕ → Tree → Type 0
-Scoped p locals Skip = Unit {0}
-Scoped p locals (Tell ask) = IsConstraint p locals ask
-Scoped p locals (Then ask a) = IsConstraint p locals ask × Scoped p locals a
-Scoped p locals (Else ask a) = IsConstraint p locals ask × Scoped p locals a
-Scoped p locals (Par a b) = Scoped p locals a × Scoped p locals b
-Scoped p locals (New cell a) = Scoped p (cell ∷ locals) a
-Scoped p locals (Hence a) = Scoped p locals a
-Scoped p locals (Next a) = Scoped p locals a
-Scoped p locals (Always a) = Scoped p locals a
-Scoped p locals (When ask a) = IsConstraint p locals ask × Scoped p locals a
-Scoped p locals (Watch a stop) = Scoped p locals a × IsConstraint p locals stop
-Scoped p locals (Time a clock) = Scoped p locals a × IsConstraint p locals clock
+abbrev pub IsScopedTree : CoreProgram → List ℕ → Tree → Type 0
+IsScopedTree p locals Skip = Unit {0}
+IsScopedTree p locals (Tell ask) = IsConstraint p locals ask
+IsScopedTree p locals (Then ask a) = IsConstraint p locals ask × IsScopedTree p locals a
+IsScopedTree p locals (Else ask a) = IsConstraint p locals ask × IsScopedTree p locals a
+IsScopedTree p locals (Par a b) = IsScopedTree p locals a × IsScopedTree p locals b
+IsScopedTree p locals (New cell a) = IsScopedTree p (cell ∷ locals) a
+IsScopedTree p locals (Hence a) = IsScopedTree p locals a
+IsScopedTree p locals (Next a) = IsScopedTree p locals a
+IsScopedTree p locals (Always a) = IsScopedTree p locals a
+IsScopedTree p locals (When ask a) = IsConstraint p locals ask × IsScopedTree p locals a
+IsScopedTree p locals (Watch a stop) = IsScopedTree p locals a × IsConstraint p locals stop
+IsScopedTree p locals (Time a clock) = IsScopedTree p locals a × IsConstraint p locals clock
 
 -- no cell that is declared or one of these local ones has the name of this cell
-abbrev pub IsFresh : CoreProgram → List ℕ → ℕ → Type 0
-IsFresh p locals cell = (c : ℕ) → (c < p.declared) ⊎ IsAmong locals c → name_at p.cells c ≡ name_at p.cells cell → ⊥
+abbrev pub IsFreshName : CoreProgram → List ℕ → ℕ → Type 0
+IsFreshName p locals cell = (c : ℕ) → (c < p.declared) ⊎ IsAmong locals c → name_at p.cells c ≡ name_at p.cells cell → ⊥
 
 -- each new form has a name that no cell around it has
-abbrev pub AreFresh : CoreProgram → List ℕ → Tree → Type 0
-AreFresh p locals Skip = Unit {0}
-AreFresh p locals (Tell ask) = Unit {0}
-AreFresh p locals (Then ask a) = AreFresh p locals a
-AreFresh p locals (Else ask a) = AreFresh p locals a
-AreFresh p locals (Par a b) = AreFresh p locals a × AreFresh p locals b
-AreFresh p locals (New cell a) = IsFresh p locals cell × AreFresh p (cell ∷ locals) a
-AreFresh p locals (Hence a) = AreFresh p locals a
-AreFresh p locals (Next a) = AreFresh p locals a
-AreFresh p locals (Always a) = AreFresh p locals a
-AreFresh p locals (When ask a) = AreFresh p locals a
-AreFresh p locals (Watch a stop) = AreFresh p locals a
-AreFresh p locals (Time a clock) = AreFresh p locals a
+abbrev pub AreFreshInTree : CoreProgram → List ℕ → Tree → Type 0
+AreFreshInTree p locals Skip = Unit {0}
+AreFreshInTree p locals (Tell ask) = Unit {0}
+AreFreshInTree p locals (Then ask a) = AreFreshInTree p locals a
+AreFreshInTree p locals (Else ask a) = AreFreshInTree p locals a
+AreFreshInTree p locals (Par a b) = AreFreshInTree p locals a × AreFreshInTree p locals b
+AreFreshInTree p locals (New cell a) = IsFreshName p locals cell × AreFreshInTree p (cell ∷ locals) a
+AreFreshInTree p locals (Hence a) = AreFreshInTree p locals a
+AreFreshInTree p locals (Next a) = AreFreshInTree p locals a
+AreFreshInTree p locals (Always a) = AreFreshInTree p locals a
+AreFreshInTree p locals (When ask a) = AreFreshInTree p locals a
+AreFreshInTree p locals (Watch a stop) = AreFreshInTree p locals a
+AreFreshInTree p locals (Time a clock) = AreFreshInTree p locals a
 
 -- the surface is well formed, with names of a text of this form
-pub record IsWellFormed (form : TextForm) (s : SurfaceProgram) : Type 0 where
+pub record IsWellFormedSurface (form : TextForm) (s : SurfaceProgram) : Type 0 where
   pub tree : Tree
   pub forms : s.forms ≡ form_listing 0 tree
   pub within : s.declared ≤ length s.cells
   pub few : s.declared ≤ 256
   pub locals : new_cells tree ≡ count_up s.declared (length s.cells - s.declared)
-  pub scoped : Scoped (bare s) [] tree
+  pub scoped : IsScopedTree (bare s) [] tree
   pub names : (n : ℕ) (d : CellDecl) → slice_get s.cells n ≡ Some d → IsName form d.name
   pub declared_fresh : (c d : ℕ) → c < d → d < s.declared → name_at s.cells c ≡ name_at s.cells d → ⊥
-  pub fresh : AreFresh (bare s) [] tree
+  pub fresh : AreFreshInTree (bare s) [] tree

@@ -5,15 +5,15 @@ ghost use Rattle.tdcc_reader.specs.Dialects.{text_form};
 ghost use Rattle.tdcc_reader.specs.Surfaces.{SurfaceProgram};
 ghost use Rattle.tdcc_reader.specs.Texts.{IsSurface, ReadsAs};
 ghost use Rattle.program_lexemes.specs.declared.bytes.TextForm.TheVariants.{Program};
-ghost use Rattle.surface_laws.specs.Surfaces.{IsWellFormed};
+ghost use Rattle.surface_laws.specs.Surfaces.{IsWellFormedSurface};
 
 /// The surface of a program text is well formed.
 pub fn surface_law()
-    ensures { (s : SurfaceProgram) → IsSurface s → IsWellFormed Program s }
+    ensures { (s : SurfaceProgram) → IsSurface s → IsWellFormedSurface Program s }
 {}
 
 /// So is what is read of a text of any dialect, with the names of its form.
 pub fn text_law()
     ensures { (dialect : Dialect) (text : List ℕ) (s : SurfaceProgram) → ReadsAs dialect text s
-        → IsWellFormed (text_form dialect) s }
+        → IsWellFormedSurface (text_form dialect) s }
 {}
