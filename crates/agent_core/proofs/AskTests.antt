@@ -19,7 +19,7 @@ use Rattle.agent_core.specs.Programs.{CoreProgram}
 use Rattle.agent_core.specs.Agents.{Constraint}
 use Rattle.agent_core.specs.Names.{Names, name_of}
 use Rattle.agent_core.specs.Stores.{IsStore}
-use Rattle.agent_core.specs.Scope.{TokenFits, AskFits}
+use Rattle.agent_core.specs.Scope.{TokenFits, ConstraintFits}
 use Rattle.agent_core.specs.Rests.{holds_at, holds, entails}
 use Rattle.agent_core.proofs.OneStore.{value_at-fits}
 
@@ -65,11 +65,11 @@ module _ (p : CoreProgram) (b : List ℕ) (u : Valuation) (cell : ℕ) (t : Toke
 -- what is left of the tokens decides the test of all
 pub record IsLeft (p : CoreProgram) (b : List ℕ) (u : Valuation) (items : Constraint) (i : ℕ) : Type 0 where
   pub same : entails p b u (drop i items) ≡ entails p b u items
-  pub fits : AskFits p b (drop i items)
+  pub fits : ConstraintFits p b (drop i items)
 
 module _ (p : CoreProgram) (b : List ℕ) (u : Valuation) (items : Constraint) (i : ℕ) (left : IsLeft p b u items i) where
-  first_fits : (pair : ℕ × Token) → i < length items → TokenFits p b (get_or items i pair) × AskFits p b (drop (i + 1) items)
-  first_fits pair lt = subst (AskFits p b) (drop_more items i pair lt) left.fits
+  first_fits : (pair : ℕ × Token) → i < length items → TokenFits p b (get_or items i pair) × ConstraintFits p b (drop (i + 1) items)
+  first_fits pair lt = subst (ConstraintFits p b) (drop_more items i pair lt) left.fits
 
   first_tested : (pair : ℕ × Token) → i < length items → holds p b u (get_or items i pair) && entails p b u (drop (i + 1) items) ≡ entails p b u items
   first_tested pair lt = ap (entails p b u) (sym (drop_more items i pair lt)) ∙ left.same

@@ -9,7 +9,7 @@ use Rattle.agent_core.specs.declared.node.Node.TheVariants as nodes
 use Rattle.agent_core.specs.declared.node.CellDecl.{CellDecl}
 use Rattle.agent_core.specs.Programs.{CoreProgram}
 use Rattle.agent_core.specs.Names.{is_new_of, new_of}
-use Rattle.agent_core.specs.Facts.{cell_of, count_up, IsProgram}
+use Rattle.agent_core.specs.WellFormed.{cell_of, count_up, IsWellFormed}
 
 -- where the cells of new nodes are counted up, none is below the first
 cell_above : (all : List Node) (first n : ℕ) → filter_map cell_of all ≡ count_up first n → (i c body : ℕ) → slice_get all i ≡ Some (nodes.New c body) → first ≤ c
@@ -55,14 +55,14 @@ new_exists (nodes.New d b ∷ all) first (suc n) e c from to = elim (cases_eq d 
 new_exists (node ∷ all) first n e c from to = let found = new_exists all first n e c from to in (suc found.0, found.1, found.2)
 
 -- a cell of a new node is found at that node, and nowhere else
-pub new_of-one : (p : CoreProgram) → IsProgram p → (m c body : ℕ) → slice_get p.nodes m ≡ Some (nodes.New c body) → new_of p.nodes c ≡ m
+pub new_of-one : (p : CoreProgram) → IsWellFormed p → (m c body : ℕ) → slice_get p.nodes m ≡ Some (nodes.New c body) → new_of p.nodes c ≡ m
 new_of-one p is m c body g =
     let place = new_place p.nodes p.declared (length p.cells - p.declared) is.locals m c body g in
     let inside : position_or_len (is_new_of c) p.nodes < length p.nodes = let lt = slice_get_within p.nodes m (nodes.New c body) g in omega arith in
     ap (λ (t : Bool). unwrap_or (cond t (Some (position_or_len (is_new_of c) p.nodes)) None) 0) (lt-ltb (position_or_len (is_new_of c) p.nodes) (length p.nodes) inside) ∙ place
 
 -- each local cell belongs to the new node that is found for it
-pub new_of-found : (p : CoreProgram) → IsProgram p → (c : ℕ) (d : CellDecl) → nat_lt c p.declared ≡ false → slice_get p.cells c ≡ Some d
+pub new_of-found : (p : CoreProgram) → IsWellFormed p → (c : ℕ) (d : CellDecl) → nat_lt c p.declared ≡ false → slice_get p.cells c ≡ Some d
     → (body : ℕ) × (slice_get p.nodes (new_of p.nodes c) ≡ Some (nodes.New c body))
 new_of-found p is c d local g =
     let from = ltb-false c p.declared local in

@@ -5,7 +5,7 @@ use Rattle.std.proofs.lemmas.Bool.{eqb-true, eq-eqb}
 use Rattle.std.proofs.lemmas.List.{drop_more, drop_all}
 use Rattle.agent_core.specs.declared.node.Node.{Node}
 use Rattle.agent_core.specs.declared.node.Node.TheVariants as nodes
-use Rattle.agent_core.specs.Facts.{cell_of, count_up}
+use Rattle.agent_core.specs.WellFormed.{cell_of, count_up}
 
 -- the cells of these new nodes are the numbers from next on, below the end
 abbrev pub AreCounted : List Node → ℕ → ℕ → Type 0

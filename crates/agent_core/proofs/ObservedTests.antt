@@ -10,9 +10,9 @@ use Rattle.agent_core.specs.declared.node.Node.TheVariants as nodes
 use Rattle.agent_core.specs.Programs.{CoreProgram}
 use Rattle.agent_core.specs.Agents.{Agent, Constraint, agent_of, agent_at}
 use Rattle.agent_core.specs.Names.{IsClosure}
-use Rattle.agent_core.specs.Facts.{IsProgram}
+use Rattle.agent_core.specs.WellFormed.{IsWellFormed}
 use Rattle.agent_core.specs.Rests.{◌⇒◌, entails, rests}
-use Rattle.agent_core.specs.Observed.{suffixes, agent_obs, obs}
+use Rattle.agent_core.specs.RestsAfter.{suffixes, rests_after, obs}
 use Rattle.agent_core.proofs.RestTests.{facts}
 
 -- with no store closed, to rest is to rest now
@@ -21,15 +21,15 @@ just_started p n b s [] u v e = refl
 just_started p n b s (w ∷ z) u v e = absurd (omega arith)
 
 -- after the closed stores w ∷ z
-module _ (p : CoreProgram) (is : IsProgram p) (n : ℕ) (b : List ℕ) (closure : IsClosure p n b) (s : ℕ) (closed : List Valuation) (w : Valuation) (z : List Valuation) (split : closed ≡ w ∷ z) (u v : Valuation) where
+module _ (p : CoreProgram) (is : IsWellFormed p) (n : ℕ) (b : List ℕ) (closure : IsClosure p n b) (s : ℕ) (closed : List Valuation) (w : Valuation) (z : List Valuation) (split : closed ≡ w ∷ z) (u v : Valuation) where
   -- a node rests as the agent that it stands for
-  obs-node : (node : Node) → slice_get p.nodes n ≡ Some node → agent_obs p u v (w ∷ z) (agent_of (agent_at p.nodes) node) b s ≡ obs p n b s closed u v
+  obs-node : (node : Node) → slice_get p.nodes n ≡ Some node → rests_after p u v (w ∷ z) (agent_of (agent_at p.nodes) node) b s ≡ obs p n b s closed u v
   obs-node node found =
-      ap (λ (a : Agent). agent_obs p u v (w ∷ z) a b s) (sym (facts p is n b closure node found).tree)
-      ∙ ap (λ (y : List Valuation). agent_obs p u v y (agent_at p.nodes n) b s) (sym split)
+      ap (λ (a : Agent). rests_after p u v (w ∷ z) a b s) (sym (facts p is n b closure node found).tree)
+      ∙ ap (λ (y : List Valuation). rests_after p u v y (agent_at p.nodes n) b s) (sym split)
 
   -- what a part says after the same stores
-  part : (m : ℕ) (births : List ℕ) → obs p m births s closed u v ≡ agent_obs p u v (w ∷ z) (agent_at p.nodes m) births s
+  part : (m : ℕ) (births : List ℕ) → obs p m births s closed u v ≡ rests_after p u v (w ∷ z) (agent_at p.nodes m) births s
   part m births = ap (λ (y : List Valuation). obs p m births s y u v) split
 
   pub always-obs : (d : Node) → slice_get p.nodes n ≡ Some d → (d ≡ nodes.Skip) ⊎ ((c : Constraint) × (d ≡ nodes.Tell c)) → true ≡ obs p n b s closed u v
@@ -37,22 +37,22 @@ module _ (p : CoreProgram) (is : IsProgram p) (n : ℕ) (b : List ℕ) (closure 
   always-obs d found (inr e) = obs-node (nodes.Tell e.0) (found ∙ ap Some e.1)
 
   pub left-not : (left right : ℕ) → slice_get p.nodes n ≡ Some (nodes.Par left right) → false ≡ obs p left b s closed u v → false ≡ obs p n b s closed u v
-  left-not left right found l = ap (λ (x : Bool). x && agent_obs p u v (w ∷ z) (agent_at p.nodes right) b s) (l ∙ part left b) ∙ obs-node (nodes.Par left right) found
+  left-not left right found l = ap (λ (x : Bool). x && rests_after p u v (w ∷ z) (agent_at p.nodes right) b s) (l ∙ part left b) ∙ obs-node (nodes.Par left right) found
 
   pub right-decides : (left right : ℕ) → slice_get p.nodes n ≡ Some (nodes.Par left right) → true ≡ obs p left b s closed u v → obs p right b s closed u v ≡ obs p n b s closed u v
-  right-decides left right found l = part right b ∙ ap (λ (x : Bool). x && agent_obs p u v (w ∷ z) (agent_at p.nodes right) b s) (l ∙ part left b) ∙ obs-node (nodes.Par left right) found
+  right-decides left right found l = part right b ∙ ap (λ (x : Bool). x && rests_after p u v (w ∷ z) (agent_at p.nodes right) b s) (l ∙ part left b) ∙ obs-node (nodes.Par left right) found
 
   pub then-waits : (c : Constraint) (m : ℕ) → slice_get p.nodes n ≡ Some (nodes.Then c m) → false ≡ entails p b w c → true ≡ obs p n b s closed u v
-  then-waits c m found e = ap (λ (x : Bool). x ⇒ agent_obs p u v (w ∷ z) (agent_at p.nodes m) b s) e ∙ obs-node (nodes.Then c m) found
+  then-waits c m found e = ap (λ (x : Bool). x ⇒ rests_after p u v (w ∷ z) (agent_at p.nodes m) b s) e ∙ obs-node (nodes.Then c m) found
 
   pub then-decides : (c : Constraint) (m : ℕ) → slice_get p.nodes n ≡ Some (nodes.Then c m) → true ≡ entails p b w c → obs p m b s closed u v ≡ obs p n b s closed u v
-  then-decides c m found e = part m b ∙ ap (λ (x : Bool). x ⇒ agent_obs p u v (w ∷ z) (agent_at p.nodes m) b s) e ∙ obs-node (nodes.Then c m) found
+  then-decides c m found e = part m b ∙ ap (λ (x : Bool). x ⇒ rests_after p u v (w ∷ z) (agent_at p.nodes m) b s) e ∙ obs-node (nodes.Then c m) found
 
   pub else-refuted : (c : Constraint) (m : ℕ) → slice_get p.nodes n ≡ Some (nodes.Else c m) → true ≡ entails p b w c → true ≡ obs p n b s closed u v
-  else-refuted c m found e = ap (λ (x : Bool). not x ⇒ agent_obs p u v (w ∷ z) (agent_at p.nodes m) b s) e ∙ obs-node (nodes.Else c m) found
+  else-refuted c m found e = ap (λ (x : Bool). not x ⇒ rests_after p u v (w ∷ z) (agent_at p.nodes m) b s) e ∙ obs-node (nodes.Else c m) found
 
   pub else-decides : (c : Constraint) (m : ℕ) → slice_get p.nodes n ≡ Some (nodes.Else c m) → false ≡ entails p b w c → obs p m b s closed u v ≡ obs p n b s closed u v
-  else-decides c m found e = part m b ∙ ap (λ (x : Bool). not x ⇒ agent_obs p u v (w ∷ z) (agent_at p.nodes m) b s) e ∙ obs-node (nodes.Else c m) found
+  else-decides c m found e = part m b ∙ ap (λ (x : Bool). not x ⇒ rests_after p u v (w ∷ z) (agent_at p.nodes m) b s) e ∙ obs-node (nodes.Else c m) found
 
   pub new-obs : (cell m : ℕ) → slice_get p.nodes n ≡ Some (nodes.New cell m) → obs p m (b ++ s ∷ []) s closed u v ≡ obs p n b s closed u v
   new-obs cell m found = part m (b ++ s ∷ []) ∙ obs-node (nodes.New cell m) found

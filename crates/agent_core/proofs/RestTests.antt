@@ -8,8 +8,8 @@ use Rattle.agent_core.specs.declared.node.Node.TheVariants as nodes
 use Rattle.agent_core.specs.Programs.{CoreProgram}
 use Rattle.agent_core.specs.Agents.{Agent, Constraint, agent_of, agent_at}
 use Rattle.agent_core.specs.Names.{depth_of, IsClosure}
-use Rattle.agent_core.specs.Facts.{IsProgram}
-use Rattle.agent_core.specs.Scope.{AskFits}
+use Rattle.agent_core.specs.WellFormed.{IsWellFormed}
+use Rattle.agent_core.specs.Scope.{ConstraintFits}
 use Rattle.agent_core.specs.Rests.{◌⇒◌, entails, agent_rests, rests}
 use Rattle.agent_core.proofs.Parts.{IsPart}
 use Rattle.agent_core.proofs.Places.{IsNodeAt, node_of_listing}
@@ -23,7 +23,7 @@ same_answer r x y e h = subst (λ (z : Bool). IfOk r (λ b. b ≡ z)) e h
 pub node_found : (p : CoreProgram) (all : List Node) (n : ℕ) (d : Node) → all ≡ p.nodes → n < length p.nodes → d ≡ get_or all n d → slice_get p.nodes n ≡ Some d
 node_found p all n d e lt g = slice_get_read p.nodes (length p.nodes) n d refl lt (g ∙ ap (λ (xs : List Node). get_or xs n d) e)
 
-module _ (p : CoreProgram) (is : IsProgram p) (n : ℕ) (b : List ℕ) (closure : IsClosure p n b) where
+module _ (p : CoreProgram) (is : IsWellFormed p) (n : ℕ) (b : List ℕ) (closure : IsClosure p n b) where
   -- a part of the node is a closure under these births, behind the node
   pub record IsBodyOf (births : List ℕ) (m : ℕ) : Type 0 where
     pub above : n < m
@@ -36,7 +36,7 @@ module _ (p : CoreProgram) (is : IsProgram p) (n : ℕ) (b : List ℕ) (closure 
   body : (m : ℕ) → IsPart p.nodes n (depth_of p.nodes n) m → IsBodyOf b m
   body m part = record { above = part.above; inside = part.inside; is_closure = record { node = part.inside; long = closure.long ∙ sym part.deep } }
 
-  pub own_ask_fits : (node : Node) → slice_get p.nodes n ≡ Some node → AskFits p b (ask_of node)
+  pub own_ask_fits : (node : Node) → slice_get p.nodes n ≡ Some node → ConstraintFits p b (ask_of node)
   own_ask_fits node found = node_fits p is n node found b closure.long
 
   pub left_of : (left right : ℕ) → slice_get p.nodes n ≡ Some (nodes.Par left right) → IsBodyOf b left

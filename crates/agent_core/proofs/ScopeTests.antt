@@ -12,7 +12,7 @@ use Rattle.agent_core.specs.declared.node.Node.TheVariants as nodes
 use Rattle.agent_core.specs.Programs.{CoreProgram}
 use Rattle.agent_core.specs.Agents.{Agent, Constraint, agent_of, agent_at}
 use Rattle.agent_core.specs.Listing.{IsListing}
-use Rattle.agent_core.specs.Facts.{IsAmong, IsInScope, AreInScope, IsConstraint, Scoped}
+use Rattle.agent_core.specs.WellFormed.{IsAmong, IsInScope, AreInScope, IsConstraint, Scoped}
 use Rattle.agent_core.proofs.Parts.{IsPart}
 use Rattle.agent_core.proofs.Places.{IsNodeAt, node_of_listing}
 

@@ -12,8 +12,8 @@ use Rattle.agent_core.specs.Programs.{CoreProgram}
 use Rattle.agent_core.specs.Agents.{Agent, Constraint, Skip, Tell, Then, Else, Par, New, Hence, Next, agent_of, agent_at}
 use Rattle.agent_core.specs.Listing.{size}
 use Rattle.agent_core.specs.Names.{Names, local_name, new_of, depth_of, IsClosure}
-use Rattle.agent_core.specs.Facts.{IsAmong, IsInScope, AreInScope, Scoped, IsProgram}
-use Rattle.agent_core.specs.Scope.{TokenFits, AskFits, AgentFits, AlwaysFits}
+use Rattle.agent_core.specs.WellFormed.{IsAmong, IsInScope, AreInScope, Scoped, IsWellFormed}
+use Rattle.agent_core.specs.Scope.{TokenFits, ConstraintFits, AgentFits, AlwaysFits}
 use Rattle.agent_core.proofs.Standing.{stands-head}
 use Rattle.agent_core.proofs.ListingTrees.{listed_tree, has_node}
 use Rattle.agent_core.proofs.Places.{Place, Place-goes_down, GoesDown, each_node, root_place, depth_of-place, size-root, node_of_listing}
@@ -45,11 +45,11 @@ IsPlaced-goes_down p = let down = Place-goes_down p.nodes in record {
   next_body = λ n locals a h. record { place = down.next_body n locals a h.place; scoped = h.scoped; news = h.news };
 }
 
-root_placed : (p : CoreProgram) → IsProgram p → IsPlaced p 0 [] (agent_at p.nodes 0)
+root_placed : (p : CoreProgram) → IsWellFormed p → IsPlaced p 0 [] (agent_at p.nodes 0)
 root_placed p is = record { place = root_place p.nodes is.tree; scoped = is.scoped; news = tt }
 
 -- each node of a program has its place
-pub placed : (p : CoreProgram) → IsProgram p → (n : ℕ) → n < length p.nodes → (locals : List ℕ) × IsPlaced p n locals (agent_at p.nodes n)
+pub placed : (p : CoreProgram) → IsWellFormed p → (n : ℕ) → n < length p.nodes → (locals : List ℕ) × IsPlaced p n locals (agent_at p.nodes n)
 placed p is n lt =
     let long = size-root p.nodes is.tree in
     let found = each_node (IsPlaced p) (IsPlaced-goes_down p) 0 [] (agent_at p.nodes 0) (root_placed p is) n n (omega arith) (omega arith) in
@@ -67,7 +67,7 @@ new_node p (local ∷ locals) cell news (inr among) =
     (found.0, found.1, found.2, omega arith)
 
 -- a token in scope has its name under as many births
-pub pair_fits : (p : CoreProgram) → IsProgram p → (locals : List ℕ) → AreNews p locals → (pair : ℕ × Token) → IsInScope p locals pair
+pub pair_fits : (p : CoreProgram) → IsWellFormed p → (locals : List ℕ) → AreNews p locals → (pair : ℕ × Token) → IsInScope p locals pair
     → (b : List ℕ) → length b ≡ length locals → TokenFits p b pair
 pair_fits p is locals news pair scope b long = record { decl = scope.decl; found = scope.found; named = go (nat_lt pair.0 p.declared) refl; fits = scope.fits }
   where
@@ -88,12 +88,12 @@ pair_fits p is locals news pair scope b long = record { decl = scope.decl; found
     go true r = (ltb-true pair.0 p.declared r, scope.found)
     go false r = local scope.visible r
 
-pub ask_fits : (p : CoreProgram) → IsProgram p → (locals : List ℕ) → AreNews p locals → (ask : Constraint) → AreInScope p locals ask
-    → (b : List ℕ) → length b ≡ length locals → AskFits p b ask
+pub ask_fits : (p : CoreProgram) → IsWellFormed p → (locals : List ℕ) → AreNews p locals → (ask : Constraint) → AreInScope p locals ask
+    → (b : List ℕ) → length b ≡ length locals → ConstraintFits p b ask
 ask_fits p is locals news [] scope b long = tt
 ask_fits p is locals news (pair ∷ ask) scope b long = (pair_fits p is locals news pair scope.0 b long, ask_fits p is locals news ask scope.1 b long)
 
-always : (p : CoreProgram) → IsProgram p → (n : ℕ) (locals : List ℕ) (a : Agent) → IsPlaced p n locals a → AlwaysFits p a (length locals)
+always : (p : CoreProgram) → IsWellFormed p → (n : ℕ) (locals : List ℕ) (a : Agent) → IsPlaced p n locals a → AlwaysFits p a (length locals)
 always p is n locals Skip h = tt
 always p is n locals (Tell c) h = ask_fits p is locals h.news c h.scoped.tokens
 always p is n locals (Then c a) h = (ask_fits p is locals h.news c h.scoped.0.tokens, always p is (suc n) locals a ((IsPlaced-goes_down p).then_body n locals c a h))
@@ -107,13 +107,13 @@ always p is n locals (Hence a) h = always p is (suc n) locals a ((IsPlaced-goes_
 always p is n locals (Next a) h = always p is (suc n) locals a ((IsPlaced-goes_down p).next_body n locals a h)
 
 -- each constraint below a node fits under any births, as many as new nodes enclose it
-pub scoped_fits : (p : CoreProgram) → IsProgram p → (n : ℕ) → n < length p.nodes → AlwaysFits p (agent_at p.nodes n) (depth_of p.nodes n)
+pub scoped_fits : (p : CoreProgram) → IsWellFormed p → (n : ℕ) → n < length p.nodes → AlwaysFits p (agent_at p.nodes n) (depth_of p.nodes n)
 scoped_fits p is n lt =
     let at = placed p is n lt in
     subst (AlwaysFits p (agent_at p.nodes n)) (sym (depth_of-place p.nodes n at.0 (agent_at p.nodes n) at.1.place)) (always p is n at.0 (agent_at p.nodes n) at.1)
 
 -- the same of the whole program
-pub root_fits : (p : CoreProgram) → IsProgram p → AlwaysFits p (agent_at p.nodes 0) 0
+pub root_fits : (p : CoreProgram) → IsWellFormed p → AlwaysFits p (agent_at p.nodes 0) 0
 root_fits p is = always p is 0 [] (agent_at p.nodes 0) (root_placed p is)
 
 -- the constraint of a node, which is empty where it has none
@@ -123,14 +123,14 @@ ask_of (nodes.Then ask body) = ask
 ask_of (nodes.Else ask body) = ask
 ask_of _ = []
 
-own_ask : (p : CoreProgram) (part : ℕ → Agent) (node : Node) (d : ℕ) → AlwaysFits p (agent_of part node) d → (b : List ℕ) → length b ≡ d → AskFits p b (ask_of node)
+own_ask : (p : CoreProgram) (part : ℕ → Agent) (node : Node) (d : ℕ) → AlwaysFits p (agent_of part node) d → (b : List ℕ) → length b ≡ d → ConstraintFits p b (ask_of node)
 own_ask p part (nodes.Tell ask) d h b e = h b e
 own_ask p part (nodes.Then ask body) d h b e = h.0 b e
 own_ask p part (nodes.Else ask body) d h b e = h.0 b e
 own_ask p part _ d h b e = tt
 
 -- the constraint of a node fits under the births of its closures
-pub node_fits : (p : CoreProgram) → IsProgram p → (n : ℕ) (node : Node) → slice_get p.nodes n ≡ Some node → (b : List ℕ) → length b ≡ depth_of p.nodes n → AskFits p b (ask_of node)
+pub node_fits : (p : CoreProgram) → IsWellFormed p → (n : ℕ) (node : Node) → slice_get p.nodes n ≡ Some node → (b : List ℕ) → length b ≡ depth_of p.nodes n → ConstraintFits p b (ask_of node)
 node_fits p is n node g b e =
     let lt = slice_get_within p.nodes n node g in
     let tree = (node_of_listing p.nodes is.tree n node g).tree in
@@ -148,9 +148,9 @@ AgentFits-under p t (Hence a) b d e h = tt
 AgentFits-under p t (Next a) b d e h = tt
 
 -- the agent of each closure fits under its births, whenever it is started
-pub closure_fits : (p : CoreProgram) → IsProgram p → (n : ℕ) (b : List ℕ) → IsClosure p n b → (t : ℕ) → AgentFits p t (agent_at p.nodes n) b
+pub closure_fits : (p : CoreProgram) → IsWellFormed p → (n : ℕ) (b : List ℕ) → IsClosure p n b → (t : ℕ) → AgentFits p t (agent_at p.nodes n) b
 closure_fits p is n b closure t = AgentFits-under p t (agent_at p.nodes n) b (depth_of p.nodes n) closure.long (scoped_fits p is n closure.node)
 
 -- the root without births is a closure
-pub root-IsClosure : (p : CoreProgram) → IsProgram p → IsClosure p 0 []
+pub root-IsClosure : (p : CoreProgram) → IsWellFormed p → IsClosure p 0 []
 root-IsClosure p is = record { node = has_node p.nodes is.tree; long = sym (depth_of-place p.nodes 0 [] (agent_at p.nodes 0) (root_place p.nodes is.tree)) }

@@ -12,7 +12,7 @@ use Rattle.agent_core.specs.Programs.{CoreProgram}
 use Rattle.agent_core.specs.Agents.{Constraint}
 use Rattle.agent_core.specs.Names.{name_of}
 use Rattle.agent_core.specs.Stores.{IsStore, Below}
-use Rattle.agent_core.specs.Scope.{TokenFits, AskFits}
+use Rattle.agent_core.specs.Scope.{TokenFits, ConstraintFits}
 use Rattle.agent_core.specs.Rests.{holds_at, holds, entails}
 use Rattle.agent_core.specs.Tellings.{tell_at, tell_all}
 use Rattle.agent_core.proofs.OneStore.{value_at-fits}
@@ -43,7 +43,7 @@ holds-above p b u v pair f below h =
     subst (λ (o : Option CellDecl). IsTrue (holds_at o p b v pair.0 pair.1)) (sym f.found)
     (below (name_of p b pair.0) f.decl pair.1 f.named f.fits (subst (λ (o : Option CellDecl). IsTrue (holds_at o p b u pair.0 pair.1)) f.found h))
 
-pub entails-above : (p : CoreProgram) (b : List ℕ) (u v : Valuation) (ask : Constraint) → AskFits p b ask → Below p u v → IsTrue (entails p b u ask) → IsTrue (entails p b v ask)
+pub entails-above : (p : CoreProgram) (b : List ℕ) (u v : Valuation) (ask : Constraint) → ConstraintFits p b ask → Below p u v → IsTrue (entails p b u ask) → IsTrue (entails p b v ask)
 entails-above p b u v [] f below h = refl
 entails-above p b u v (pair ∷ ask) f below h =
     both _ _ (holds-above p b u v pair f.0 below (first_of_both (holds p b u pair) (entails p b u ask) h)) (entails-above p b u v ask f.1 below (second_of_both (holds p b u pair) (entails p b u ask) h))
@@ -58,7 +58,7 @@ pub record IsLeast (p : CoreProgram) (u : Valuation) (Has : Valuation → Type 0
   pub above : Below p u after
   pub least : (x : Valuation) → IsStore p x → Below p u x → Has x → Below p after x
 
-pub tell_all-least : (p : CoreProgram) (b : List ℕ) (ask : Constraint) (u : Valuation) → IsStore p u → AskFits p b ask → IsLeast p u (λ x. IsTrue (entails p b x ask)) (tell_all p b ask u)
+pub tell_all-least : (p : CoreProgram) (b : List ℕ) (ask : Constraint) (u : Valuation) → IsStore p u → ConstraintFits p b ask → IsLeast p u (λ x. IsTrue (entails p b x ask)) (tell_all p b ask u)
 tell_all-least p b [] u is f = record { store = is; above = Below-refl p u; least = λ x ix below h. below }
 tell_all-least p b (pair ∷ ask) u is f =
     let one = tells_one p b u pair is f.0 in
@@ -72,7 +72,7 @@ tell_all-least p b (pair ∷ ask) u is f =
           (second_of_both (holds p b x pair) (entails p b x ask) h);
     }
 
-pub tell_all-entails : (p : CoreProgram) (b : List ℕ) (ask : Constraint) (u : Valuation) → IsStore p u → AskFits p b ask → IsTrue (entails p b (tell_all p b ask u) ask)
+pub tell_all-entails : (p : CoreProgram) (b : List ℕ) (ask : Constraint) (u : Valuation) → IsStore p u → ConstraintFits p b ask → IsTrue (entails p b (tell_all p b ask u) ask)
 tell_all-entails p b [] u is f = refl
 tell_all-entails p b (pair ∷ ask) u is f =
     let one = tells_one p b u pair is f.0 in

@@ -11,7 +11,7 @@ use Rattle.agent_core.specs.Agents.{Agent, Skip, Tell, Then, Else, Par, New, Hen
 use Rattle.agent_core.specs.Programs.{CoreProgram}
 use Rattle.agent_core.specs.Listing.{size}
 use Rattle.agent_core.specs.Rests.{entails}
-use Rattle.agent_core.specs.Observed.{suffixes}
+use Rattle.agent_core.specs.RestsAfter.{suffixes}
 
 abbrev pub closure : ℕ → List ℕ → Closure
 closure n b = record { node = n; births = b }

@@ -10,8 +10,8 @@ use Rattle.agent_core.specs.Rests.{entails}
 
 -- an ask above a leaf, under its births: what the store is to entail, or is not to entail
 pub data Guard : Type 0 where
-  Asks : (births : List ℕ) → (ask : Constraint) → Guard
-  Denies : (births : List ℕ) → (ask : Constraint) → Guard
+  Positive : (births : List ℕ) → (ask : Constraint) → Guard
+  Negative : (births : List ℕ) → (ask : Constraint) → Guard
 
 -- a leaf: its node, the agent that stands there, its births, and the guards above it, outermost first
 pub record Leaf : Type 0 where
@@ -30,8 +30,8 @@ leaves_of t (Tell c) n b path = leaf n (Tell c) b path ∷ []
 leaves_of t (Hence a) n b path = leaf n (Hence a) b path ∷ []
 leaves_of t (Next a) n b path = leaf n (Next a) b path ∷ []
 leaves_of t (Par l r) n b path = leaves_of t l (suc n) b path ++ leaves_of t r (suc n + size l) b path
-leaves_of t (Then c a) n b path = leaves_of t a (suc n) b (path ++ Asks b c ∷ [])
-leaves_of t (Else c a) n b path = leaves_of t a (suc n) b (path ++ Denies b c ∷ [])
+leaves_of t (Then c a) n b path = leaves_of t a (suc n) b (path ++ Positive b c ∷ [])
+leaves_of t (Else c a) n b path = leaves_of t a (suc n) b (path ++ Negative b c ∷ [])
 leaves_of t (New cell a) n b path = leaves_of t a (suc n) (b ++ t ∷ []) path
 
 -- the leaves of these roots at instant t
@@ -44,8 +44,8 @@ tells (Tell c) = c
 tells _ = []
 
 abbrev pub allows : CoreProgram → Valuation → Guard → Bool
-allows p v (Asks b c) = entails p b v c
-allows p v (Denies b c) = not (entails p b v c)
+allows p v (Positive b c) = entails p b v c
+allows p v (Negative b c) = not (entails p b v c)
 
 -- the store runs the leaf: it entails every then ask on the leaf's path, and no else ask
 abbrev pub runs : CoreProgram → Valuation → Leaf → Bool

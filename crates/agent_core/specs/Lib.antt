@@ -2,13 +2,13 @@ pub mod Programs
 pub mod Agents
 pub mod Listing
 pub mod Names
-pub mod Facts
+pub mod WellFormed
 pub mod Scope
 pub mod Tellings
 pub mod Drafts
 pub mod Stores
 pub mod Rests
-pub mod Observed
+pub mod RestsAfter
 pub mod Outputs
 pub mod Closures
 pub mod Leaves

@@ -3,7 +3,7 @@ use Rattle.std.specs.Prelude.{◌≡◌, ℕ, Bool, List, [], length, take, Some
 use Rattle.token_system.specs.Stores.{Valuation}
 use Rattle.agent_core.specs.Programs.{CoreProgram}
 use Rattle.agent_core.specs.Stores.{IsStore, Below}
-use Rattle.agent_core.specs.Observed.{obs}
+use Rattle.agent_core.specs.RestsAfter.{obs}
 
 -- v lies above the input and rests under itself as guess, while no smaller store above the input rests under that guess
 pub record IsStable (p : CoreProgram) (rest : Valuation → Valuation → Bool) (input v : Valuation) : Type 0 where

@@ -15,16 +15,16 @@ pub record TokenFits (p : CoreProgram) (births : List ℕ) (pair : ℕ × Token)
   pub fits : Fits decl.cell pair.1
 
 -- each token of the constraint does
-abbrev pub AskFits : CoreProgram → List ℕ → Constraint → Type 0
-AskFits p births [] = Unit {0}
-AskFits p births (pair ∷ ask) = TokenFits p births pair × AskFits p births ask
+abbrev pub ConstraintFits : CoreProgram → List ℕ → Constraint → Type 0
+ConstraintFits p births [] = Unit {0}
+ConstraintFits p births (pair ∷ ask) = TokenFits p births pair × ConstraintFits p births ask
 
 -- each constraint of the agent within the instant does, where the agent is started at t under these births
 abbrev pub AgentFits : CoreProgram → ℕ → Agent → List ℕ → Type 0
 AgentFits p t Skip b = Unit {0}
-AgentFits p t (Tell c) b = AskFits p b c
-AgentFits p t (Then c a) b = AskFits p b c × AgentFits p t a b
-AgentFits p t (Else c a) b = AskFits p b c × AgentFits p t a b
+AgentFits p t (Tell c) b = ConstraintFits p b c
+AgentFits p t (Then c a) b = ConstraintFits p b c × AgentFits p t a b
+AgentFits p t (Else c a) b = ConstraintFits p b c × AgentFits p t a b
 AgentFits p t (Par a a') b = AgentFits p t a b × AgentFits p t a' b
 AgentFits p t (New cell a) b = AgentFits p t a (b ++ t ∷ [])
 AgentFits p t (Hence a) b = Unit {0}
@@ -33,9 +33,9 @@ AgentFits p t (Next a) b = Unit {0}
 -- each constraint of the agent does under any births, as many as new nodes enclose it, where d enclose the agent
 abbrev pub AlwaysFits : CoreProgram → Agent → ℕ → Type 0
 AlwaysFits p Skip d = Unit {0}
-AlwaysFits p (Tell c) d = (b : List ℕ) → length b ≡ d → AskFits p b c
-AlwaysFits p (Then c a) d = ((b : List ℕ) → length b ≡ d → AskFits p b c) × AlwaysFits p a d
-AlwaysFits p (Else c a) d = ((b : List ℕ) → length b ≡ d → AskFits p b c) × AlwaysFits p a d
+AlwaysFits p (Tell c) d = (b : List ℕ) → length b ≡ d → ConstraintFits p b c
+AlwaysFits p (Then c a) d = ((b : List ℕ) → length b ≡ d → ConstraintFits p b c) × AlwaysFits p a d
+AlwaysFits p (Else c a) d = ((b : List ℕ) → length b ≡ d → ConstraintFits p b c) × AlwaysFits p a d
 AlwaysFits p (Par a a') d = AlwaysFits p a d × AlwaysFits p a' d
 AlwaysFits p (New cell a) d = AlwaysFits p a (suc d)
 AlwaysFits p (Hence a) d = AlwaysFits p a d

@@ -18,7 +18,7 @@ In x (y ∷ ys) = (x ≡ y) ⊎ In x ys
 pub record Asked : Type 0 where
   pub node : ℕ
   pub cell : ℕ
-  pub strict : Bool
+  pub negative : Bool
 
 -- an asked cell on the path of a tell of another: the tell's node, and the told cell
 pub record Edge : Type 0 where
@@ -27,7 +27,7 @@ pub record Edge : Type 0 where
   pub told : ℕ
 
 abbrev pub asked_by : ℕ → Bool → Constraint → List Asked
-asked_by n strict ask = map (λ x. record { node = n; cell = x.0; strict = strict }) ask
+asked_by n negative ask = map (λ x. record { node = n; cell = x.0; negative = negative }) ask
 
 -- the edges of an agent, whose node is n, below these asks; a hence or a next begins a path anew
 abbrev pub agent_edges : ℕ → Agent → List Asked → List Edge
@@ -45,7 +45,7 @@ edges p = agent_edges 0 (agent_at p.nodes 0) []
 
 -- the told cell's number is at least the asked one's, and greater where an else asks
 abbrev pub Meets : List ℕ → Edge → Type 0
-Meets table e = slice_index table e.guard.cell + (if e.guard.strict then 1 else 0) ≤ slice_index table e.told
+Meets table e = slice_index table e.guard.cell + (if e.guard.negative then 1 else 0) ≤ slice_index table e.told
 
 -- the table has a number for each cell, and each edge meets it
 pub record Stratifies (p : CoreProgram) (table : List ℕ) : Type 0 where
@@ -82,7 +82,7 @@ tells_of n (Hence a) = []
 tells_of n (Next a) = []
 
 abbrev pub cases_at : ℕ → Agent → List Edge
-cases_at n (Else c a) = flat_map (λ x. map (λ g. record { guard = record { node = n; cell = g.0; strict = true }; tell = x.0; told = x.1 }) c) (tells_of (suc n) a)
+cases_at n (Else c a) = flat_map (λ x. map (λ g. record { guard = record { node = n; cell = g.0; negative = true }; tell = x.0; told = x.1 }) c) (tells_of (suc n) a)
 cases_at n _ = []
 
 -- by the number of the else node, then of the tell node, then the place of the told token, then the place of the guard token

@@ -11,7 +11,7 @@ use Rattle.agent_core.specs.Agents.{Agent, Constraint, Tell, Else, Par, Hence, N
 use Rattle.agent_core.specs.Programs.{CoreProgram}
 use Rattle.agent_core.specs.Listing.{listing}
 use Rattle.agent_core.specs.Rests.{rests}
-use Rattle.agent_core.specs.Observed.{obs}
+use Rattle.agent_core.specs.RestsAfter.{obs}
 
 -- the signal `a`
 abbrev pub a_decl : CellDecl

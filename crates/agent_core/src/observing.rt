@@ -2,7 +2,7 @@ ghost use Rattle.std.specs.Prelude.{◌≡◌, ◌+◌, ◌-◌, ◌<◌, ◌^�
 ghost use Rattle.std.specs.List.{list_all};
 ghost use Rattle.agent_core.specs.Names.{IsClosure};
 ghost use Rattle.agent_core.specs.Stores.{IsStore, Below};
-ghost use Rattle.agent_core.specs.Observed as specs;
+ghost use Rattle.agent_core.specs.RestsAfter as specs;
 
 use crate::node::{Closure, Node};
 use crate::program::Program;

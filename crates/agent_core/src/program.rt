@@ -1,7 +1,7 @@
 ghost use Rattle.std.specs.Prelude.{◌≡◌, ◌↔◌, IfSome, IsSome};
-ghost use Rattle.agent_core.specs.Facts.{IsProgram};
+ghost use Rattle.agent_core.specs.WellFormed.{IsWellFormed};
 
-use crate::draft::Draft;
+use crate::candidate::Candidate;
 use crate::node::{CellDecl, Node};
 use std::marker::Model;
 
@@ -15,28 +15,28 @@ pub struct Program {
 
 impl Model for Program {
     ghost use Rattle.agent_core.specs.Programs.{CoreProgram};
-    ghost use Rattle.agent_core.specs.Facts.{IsProgram};
+    ghost use Rattle.agent_core.specs.WellFormed.{IsWellFormed};
 
     ghost Value = { CoreProgram };
 
     ghost view = { λ p. record { cells = p.cells.items; declared = p.declared; nodes = p.nodes.items } };
 
-    ghost invariant = { λ p. IsProgram (record { cells = p.cells.items; declared = p.declared; nodes = p.nodes.items }) };
+    ghost invariant = { λ p. IsWellFormed (record { cells = p.cells.items; declared = p.declared; nodes = p.nodes.items }) };
 }
 
 impl Program {
     /// The program with these cells, of which the first `declared` are declared and the others
     /// local, and with these nodes. It takes no memory; what is refused is dropped.
     pub fn make(cells: Vec<CellDecl>, declared: u32, nodes: Vec<Node>) -> Option<Program>
-        ensures exactly { IsSome result ↔ IsProgram (record { cells = cells.items; declared = declared; nodes = nodes.items }) }
+        ensures exactly { IsSome result ↔ IsWellFormed (record { cells = cells.items; declared = declared; nodes = nodes.items }) }
         ensures same { IfSome result (λ p. p ≡ record { cells = cells.items; declared = declared; nodes = nodes.items }) }
     {
-        let draft = Draft {
+        let candidate = Candidate {
             cells: &cells,
             declared,
             nodes: &nodes,
         };
-        if draft.is_program() {
+        if candidate.is_program() {
             Some(Program {
                 cells,
                 declared,
@@ -50,7 +50,7 @@ impl Program {
     /// The declared cells, and then the local ones.
     pub fn cells(&self) -> &[CellDecl]
         ensures all { result.now ≡ self.now.cells }
-        ensures program { IsProgram self.now }
+        ensures program { IsWellFormed self.now }
     {
         self.cells.as_slice()
     }
@@ -58,7 +58,7 @@ impl Program {
     /// How many cells are declared.
     pub fn declared(&self) -> u32
         ensures number { result ≡ self.now.declared }
-        ensures program { IsProgram self.now }
+        ensures program { IsWellFormed self.now }
     {
         self.declared
     }
@@ -66,7 +66,7 @@ impl Program {
     /// The nodes in preorder; node 0 is the root.
     pub fn nodes(&self) -> &[Node]
         ensures all { result.now ≡ self.now.nodes }
-        ensures program { IsProgram self.now }
+        ensures program { IsWellFormed self.now }
     {
         self.nodes.as_slice()
     }

@@ -1,6 +1,6 @@
 ghost use Rattle.std.specs.Prelude.{◌≡◌, ◌<◌, IfOk, length};
 ghost use Rattle.agent_core.specs.Names.{IsClosure};
-ghost use Rattle.agent_core.specs.Scope.{TokenFits, AskFits};
+ghost use Rattle.agent_core.specs.Scope.{TokenFits, ConstraintFits};
 ghost use Rattle.agent_core.specs.Stores.{IsStore, Below};
 ghost use Rattle.agent_core.specs.Rests as specs;
 
@@ -37,7 +37,7 @@ pub(crate) fn entails(
     ask: &Constraint,
 ) -> Result<bool, Memory>
     requires store { IsStore program.now store.now }
-    requires fits { AskFits program.now births.now ask.now }
+    requires fits { ConstraintFits program.now births.now ask.now }
     ensures { IfOk result (λ b. b ≡ specs.entails program.now births.now store.now ask.now) }
 {
     for (cell, token) in ask.list() {

@@ -1,6 +1,6 @@
 ghost use Rattle.std.specs.Prelude.{◌≡◌, ◌<◌, ℕ, [], ◌∷◌, All, IfOk, Some, length, slice_get};
 ghost use Rattle.agent_core.specs.declared.node.CellDecl.{CellDecl as DeclValue};
-ghost use Rattle.agent_core.specs.Facts.{IsProgram};
+ghost use Rattle.agent_core.specs.WellFormed.{IsWellFormed};
 ghost use Rattle.agent_core.specs.Names.{IsClosure, Names};
 ghost use Rattle.agent_core.specs.Stores.{IsStore};
 ghost use Rattle.token_system.specs.declared.name.CellName.TheVariants.{Declared as DeclaredName, Local as LocalName};
@@ -21,7 +21,7 @@ fn is_on(alloc: Global) -> Result<Constraint, Fail> {
 /// The program with these nodes over one signal `a`, of which so many are declared: 1, or 0 where it
 /// is a local cell.
 fn over_one_signal(alloc: Global, declared: u32, nodes: Vec<Node>) -> Result<Program, Fail>
-    ensures program { IfOk result IsProgram }
+    ensures program { IfOk result IsWellFormed }
     ensures signal { IfOk result (λ p. (decl : DeclValue) × (slice_get p.cells 0 ≡ Some decl) × (decl.cell.kind ≡ SignalKind)) }
     ensures declared { IfOk result (λ p. p.declared ≡ declared) }
     ensures nodes { IfOk result (λ p. p.nodes ≡ nodes.items) }
@@ -43,7 +43,7 @@ fn over_one_signal(alloc: Global, declared: u32, nodes: Vec<Node>) -> Result<Pro
 
 /// The same, where the signal is declared.
 fn over_declared_signal(alloc: Global, nodes: Vec<Node>) -> Result<Program, Fail>
-    ensures program { IfOk result IsProgram }
+    ensures program { IfOk result IsWellFormed }
     ensures signal { IfOk result (λ p. (decl : DeclValue) × Names p (DeclaredName 0) decl × (slice_get p.cells 0 ≡ Some decl) × (decl.cell.kind ≡ SignalKind)) }
 {
     over_one_signal(alloc, 1, nodes)
@@ -51,7 +51,7 @@ fn over_declared_signal(alloc: Global, nodes: Vec<Node>) -> Result<Program, Fail
 
 /// `signal a; if a else a`.
 fn else_over_its_own_tell(alloc: Global) -> Result<Program, Fail>
-    ensures program { IfOk result IsProgram }
+    ensures program { IfOk result IsWellFormed }
     ensures signal { IfOk result (λ p. (decl : DeclValue) × Names p (DeclaredName 0) decl × (slice_get p.cells 0 ≡ Some decl) × (decl.cell.kind ≡ SignalKind)) }
 {
     let mut nodes = Vec::new(alloc);
@@ -78,7 +78,7 @@ fn push_told_after_absence(alloc: Global, nodes: &mut Vec<Node>, n: u32) -> Resu
 
 /// `signal a; always (if a else next a)`.
 fn told_after_each_absence(alloc: Global) -> Result<Program, Fail>
-    ensures program { IfOk result IsProgram }
+    ensures program { IfOk result IsWellFormed }
     ensures signal { IfOk result (λ p. (decl : DeclValue) × Names p (DeclaredName 0) decl × (slice_get p.cells 0 ≡ Some decl) × (decl.cell.kind ≡ SignalKind)) }
 {
     let mut nodes = Vec::new(alloc);
@@ -91,7 +91,7 @@ fn told_after_each_absence(alloc: Global) -> Result<Program, Fail>
 
 /// `hence new a in next a`.
 fn local_at_each_instant(alloc: Global) -> Result<Program, Fail>
-    ensures program { IfOk result IsProgram }
+    ensures program { IfOk result IsWellFormed }
     ensures signal { IfOk result (λ p. (t : ℕ) → (decl : DeclValue) × Names p (LocalName 1 (t ∷ [])) decl × (slice_get p.cells 0 ≡ Some decl) × (decl.cell.kind ≡ SignalKind)) }
 {
     let mut nodes = Vec::new(alloc);
@@ -142,7 +142,7 @@ fn nothing(alloc: Global, program: &Program) -> Store
 
 /// The root, which no new node encloses.
 fn root(alloc: Global, program: &Program) -> Closure
-    requires { IsProgram program.now }
+    requires { IsWellFormed program.now }
     ensures { IsClosure program.now result.node result.births }
 {
     Closure {
@@ -154,7 +154,7 @@ fn root(alloc: Global, program: &Program) -> Closure
 /// Whether the root rests at instant 0 under the empty store with itself, under the empty store
 /// with the given one, and under the given one with itself.
 fn root_rests(alloc: Global, program: &Program, on: &Store) -> Result<(bool, bool, bool), Fail>
-    requires program { IsProgram program.now }
+    requires program { IsWellFormed program.now }
     requires store { IsStore program.now on.now }
 {
     let root = root(alloc, program);
@@ -185,7 +185,7 @@ fn root_rests_after(
     instants: usize,
     store: &Store,
 ) -> Result<bool, Fail>
-    requires program { IsProgram program.now }
+    requires program { IsWellFormed program.now }
     requires few { instants < 1000 }
     requires store { IsStore program.now store.now }
 {

@@ -8,10 +8,10 @@ use Rattle.agent_core.specs.declared.node.Closure.{Closure}
 use Rattle.agent_core.specs.Agents.{Agent, Skip, Tell, Then, Else, Par, New, Hence, Next, agent_at}
 use Rattle.agent_core.specs.Programs.{CoreProgram}
 use Rattle.agent_core.specs.Listing.{size}
-use Rattle.agent_core.specs.Facts.{IsProgram}
-use Rattle.agent_core.specs.Scope.{AskFits, AgentFits}
+use Rattle.agent_core.specs.WellFormed.{IsWellFormed}
+use Rattle.agent_core.specs.Scope.{ConstraintFits, AgentFits}
 use Rattle.agent_core.specs.Stores.{IsStore, Below}
-use Rattle.agent_core.specs.Leaves.{Guard, Asks, Denies, Leaf, leaves_of, leaves, tells}
+use Rattle.agent_core.specs.Leaves.{Guard, Positive, Negative, Leaf, leaves_of, leaves, tells}
 use Rattle.agent_core.specs.Strata.{Each, Stratifies}
 use Rattle.agent_core.specs.RootOutputs.{roots_rest, IsOutputOf}
 use Rattle.agent_core.proofs.Scopes.{closure_fits}
@@ -31,7 +31,7 @@ use Rattle.agent_laws.proofs.Instance.{GuardFits, LeafFits, system, below_of, of
 -- WHAT LEAVES NAME FITS
 
 abbrev Named : CoreProgram → Leaf → Type 0
-Named p l = AskFits p l.births (tells l.agent) × Each (GuardFits p) l.path
+Named p l = ConstraintFits p l.births (tells l.agent) × Each (GuardFits p) l.path
 
 leaves-named : (p : CoreProgram) (t : ℕ) (a : Agent) (n : ℕ) (b : List ℕ) (path : List Guard) → AgentFits p t a b → Each (GuardFits p) path → Each (Named p) (leaves_of t a n b path)
 leaves-named p t Skip n b path f g = ((tt, g), tt)
@@ -40,8 +40,8 @@ leaves-named p t (Hence a) n b path f g = ((tt, g), tt)
 leaves-named p t (Next a) n b path f g = ((tt, g), tt)
 leaves-named p t (Par l r) n b path f g =
     Each-append (Named p) (leaves_of t l (suc n) b path) (leaves_of t r (suc n + size l) b path) (leaves-named p t l (suc n) b path f.0 g) (leaves-named p t r (suc n + size l) b path f.1 g)
-leaves-named p t (Then c a) n b path f g = leaves-named p t a (suc n) b (path ++ Asks b c ∷ []) f.1 (Each-append (GuardFits p) path (Asks b c ∷ []) g (f.0, tt))
-leaves-named p t (Else c a) n b path f g = leaves-named p t a (suc n) b (path ++ Denies b c ∷ []) f.1 (Each-append (GuardFits p) path (Denies b c ∷ []) g (f.0, tt))
+leaves-named p t (Then c a) n b path f g = leaves-named p t a (suc n) b (path ++ Positive b c ∷ []) f.1 (Each-append (GuardFits p) path (Positive b c ∷ []) g (f.0, tt))
+leaves-named p t (Else c a) n b path f g = leaves-named p t a (suc n) b (path ++ Negative b c ∷ []) f.1 (Each-append (GuardFits p) path (Negative b c ∷ []) g (f.0, tt))
 leaves-named p t (New cell a) n b path f g = leaves-named p t a (suc n) (b ++ t ∷ []) path f g
 
 -- THE TEST OF A LEAF, AND THE FACTS THAT IT STANDS FOR
@@ -70,11 +70,11 @@ path_test true a b x y h = go a b x y (h refl)
 -- CLOSURES AND THEIR LEAVES
 
 -- where u is below v, closures rest exactly where their leaves do
-pub closures_leaves : (p : CoreProgram) → IsProgram p → (rs : List Closure) → Each (IsOwn p) rs → (t : ℕ) (u v : Valuation) → Below p u v
+pub closures_leaves : (p : CoreProgram) → IsWellFormed p → (rs : List Closure) → Each (IsOwn p) rs → (t : ℕ) (u v : Valuation) → Below p u v
     → roots_rest p rs t u v ≡ list_all (leaf_rests p u v) (leaves p rs t)
 closures_leaves p is rs own t u v below = sym (roots_leaves p t u v below rs (Each-map (IsOwn p) (ClosureFits p t u v below) (λ r h. closure_fits p is r.node r.births h t) rs own))
 
-module _ (p : CoreProgram) (table : List ℕ) (s : ℕ) (low : AreBelow p table s) (is : IsProgram p) (strat : Stratifies p table) (rs : List Closure) (own : Each (IsOwn p) rs) (t : ℕ) where
+module _ (p : CoreProgram) (table : List ℕ) (s : ℕ) (low : AreBelow p table s) (is : IsWellFormed p) (strat : Stratifies p table) (rs : List Closure) (own : Each (IsOwn p) rs) (t : ℕ) where
   abbrev sys : System
   sys = system p table s low is
 
@@ -141,8 +141,8 @@ table-low (x ∷ table) (suc c) = let h = table-low table c in omega arith
 pub all_below : (p : CoreProgram) (table : List ℕ) → AreBelow p table (above_all table)
 all_below p table c within = table-low table c
 
-pub closures-have_output : (p : CoreProgram) (table : List ℕ) → IsProgram p → Stratifies p table → (rs : List Closure) → Each (IsOwn p) rs → (t : ℕ) (i : Valuation) → IsStore p i → (v : Valuation) × IsOutputOf p rs t i v
+pub closures-have_output : (p : CoreProgram) (table : List ℕ) → IsWellFormed p → Stratifies p table → (rs : List Closure) → Each (IsOwn p) rs → (t : ℕ) (i : Valuation) → IsStore p i → (v : Valuation) × IsOutputOf p rs t i v
 closures-have_output p table is strat rs own t i ii = has_leaf_output p table (above_all table) (all_below p table) is strat rs own t i ii
 
-pub closures-one_output : (p : CoreProgram) (table : List ℕ) → IsProgram p → Stratifies p table → (rs : List Closure) → Each (IsOwn p) rs → (t : ℕ) (i v w : Valuation) → IsOutputOf p rs t i v → IsOutputOf p rs t i w → v ≡ w
+pub closures-one_output : (p : CoreProgram) (table : List ℕ) → IsWellFormed p → Stratifies p table → (rs : List Closure) → Each (IsOwn p) rs → (t : ℕ) (i v w : Valuation) → IsOutputOf p rs t i v → IsOutputOf p rs t i w → v ≡ w
 closures-one_output p table is strat rs own t i v w ov ow = one_leaf_output p table (above_all table) (all_below p table) is strat rs own t i v w ov ow

@@ -9,11 +9,11 @@ use Rattle.token_system.proofs.Alike.{true_false}
 use Rattle.agent_core.specs.declared.node.Closure.{Closure}
 use Rattle.agent_core.specs.declared.node.CellDecl.{CellDecl}
 use Rattle.agent_core.specs.Programs.{CoreProgram}
-use Rattle.agent_core.specs.Facts.{IsProgram}
+use Rattle.agent_core.specs.WellFormed.{IsWellFormed}
 use Rattle.agent_core.specs.Rests.{holds_at, holds, entails}
 use Rattle.agent_core.specs.Tellings.{tell_at, tell_all}
 use Rattle.agent_core.specs.Scope.{TokenFits}
-use Rattle.agent_core.specs.Leaves.{Guard, Asks, Denies, Leaf, leaves, tells, allows, runs}
+use Rattle.agent_core.specs.Leaves.{Guard, Positive, Negative, Leaf, leaves, tells, allows, runs}
 use Rattle.agent_core.specs.Strata.{Each, Stratifies}
 use Rattle.agent_core.specs.RootOutputs.{IsOutputOf}
 use Rattle.agent_core.proofs.Tellings.{Below-refl, Below-trans, tells_one}
@@ -33,8 +33,8 @@ use Rattle.agent_laws.proofs.ClosureOutputs.{leaves-fit, flat-output, by_strata,
 
 pub runs-parts : (p : CoreProgram) (v : Valuation) (path : List Guard) → list_all (allows p v) path ≡ (list_all (free p v) path && list_all (asked p v) path)
 runs-parts p v [] = refl
-runs-parts p v (Asks b c ∷ path) = ap (λ x. entails p b v c && x) (runs-parts p v path) ∙ and_swap (entails p b v c) (list_all (free p v) path) (list_all (asked p v) path)
-runs-parts p v (Denies b c ∷ path) = ap (λ x. not (entails p b v c) && x) (runs-parts p v path) ∙ sym (and_assoc (not (entails p b v c)) (list_all (free p v) path) (list_all (asked p v) path))
+runs-parts p v (Positive b c ∷ path) = ap (λ x. entails p b v c && x) (runs-parts p v path) ∙ and_swap (entails p b v c) (list_all (free p v) path) (list_all (asked p v) path)
+runs-parts p v (Negative b c ∷ path) = ap (λ x. not (entails p b v c) && x) (runs-parts p v path) ∙ sym (and_assoc (not (entails p b v c)) (list_all (free p v) path) (list_all (asked p v) path))
 
 parts : (f a : Bool) → IsTrue (f && a) → (not f ≡ false) × IsTrue a
 parts true a h = (refl, h)
@@ -44,7 +44,7 @@ whole : (f a : Bool) → not f ≡ false → IsTrue a → IsTrue (f && a)
 whole true a e h = h
 whole false a e h = absurd (true_false e)
 
-module _ (p : CoreProgram) (table : List ℕ) (s : ℕ) (low : AreBelow p table s) (is : IsProgram p) (strat : Stratifies p table) (rs : List Closure) (own : Each (IsOwn p) rs) (t : ℕ)
+module _ (p : CoreProgram) (table : List ℕ) (s : ℕ) (low : AreBelow p table s) (is : IsWellFormed p) (strat : Stratifies p table) (rs : List Closure) (own : Each (IsOwn p) rs) (t : ℕ)
     (i v : Valuation) (out : IsOutputOf p rs t i v) where
   abbrev sys : System
   sys = system p table s low is

@@ -13,7 +13,7 @@ use Rattle.agent_core.specs.Scope.{AgentFits}
 use Rattle.agent_core.specs.Stores.{Below}
 use Rattle.agent_core.specs.Rests.{◌⇒◌, entails, agent_rests, rests}
 use Rattle.agent_core.specs.declared.node.Closure.{Closure}
-use Rattle.agent_core.specs.Leaves.{Guard, Asks, Denies, Leaf, leaves_of, leaves}
+use Rattle.agent_core.specs.Leaves.{Guard, Positive, Negative, Leaf, leaves_of, leaves}
 use Rattle.agent_core.specs.RootOutputs.{roots_rest}
 use Rattle.agent_core.proofs.Bools.{both, first_of_both, second_of_both}
 use Rattle.agent_core.proofs.Tellings.{entails-above}
@@ -105,10 +105,10 @@ module _ (p : CoreProgram) (t : ℕ) (u v : Valuation) (below : Below p u v) whe
       ∙ ap (λ x. path_rests (free_on path) (by_u path) (by_v path) (agent_rests p t v l b u) (agent_rests p t v l b v) && x) (leaves_of-rest r (suc n + size l) b path f.1 up)
       ∙ path_both (free_on path) (by_u path) (by_v path) _ _ _ _
   leaves_of-rest (Then c a) n b path f up =
-      let more : List Guard = path ++ Asks b c ∷ [] in
-      let in_u : by_u more ≡ (by_u path && (entails p b u c && true)) = list_all-append (asked p u) path (Asks b c ∷ []) in
-      let in_v : by_v more ≡ (by_v path && (entails p b v c && true)) = list_all-append (asked p v) path (Asks b c ∷ []) in
-      let in_free : free_on more ≡ (free_on path && (true && true)) = list_all-append (free p v) path (Asks b c ∷ []) in
+      let more : List Guard = path ++ Positive b c ∷ [] in
+      let in_u : by_u more ≡ (by_u path && (entails p b u c && true)) = list_all-append (asked p u) path (Positive b c ∷ []) in
+      let in_v : by_v more ≡ (by_v path && (entails p b v c && true)) = list_all-append (asked p v) path (Positive b c ∷ []) in
+      let in_free : free_on more ≡ (free_on path && (true && true)) = list_all-append (free p v) path (Positive b c ∷ []) in
       let up_more : IsTrue (by_u more) → IsTrue (by_v more) = λ h.
       let g : IsTrue (by_u path && (entails p b u c && true)) = sym in_u ∙ h in
       in_v ∙ both _ _ (up (first_of_both _ _ g)) (both _ _ (entails-above p b u v c f.0 below (first_of_both _ _ (second_of_both (by_u path) _ g))) refl) in
@@ -118,10 +118,10 @@ module _ (p : CoreProgram) (t : ℕ) (u v : Valuation) (below : Below p u v) whe
       ∙ ap (λ x. path_rests (free_on path && (true && true)) (by_u path && (entails p b u c && true)) x (agent_rests p t v a b u) (agent_rests p t v a b v)) in_v
       ∙ path_then (free_on path) (by_u path) (by_v path) (entails p b u c) (entails p b v c) _ _ up
   leaves_of-rest (Else c a) n b path f up =
-      let more : List Guard = path ++ Denies b c ∷ [] in
-      let in_u : by_u more ≡ (by_u path && (true && true)) = list_all-append (asked p u) path (Denies b c ∷ []) in
-      let in_v : by_v more ≡ (by_v path && (true && true)) = list_all-append (asked p v) path (Denies b c ∷ []) in
-      let in_free : free_on more ≡ (free_on path && (not (entails p b v c) && true)) = list_all-append (free p v) path (Denies b c ∷ []) in
+      let more : List Guard = path ++ Negative b c ∷ [] in
+      let in_u : by_u more ≡ (by_u path && (true && true)) = list_all-append (asked p u) path (Negative b c ∷ []) in
+      let in_v : by_v more ≡ (by_v path && (true && true)) = list_all-append (asked p v) path (Negative b c ∷ []) in
+      let in_free : free_on more ≡ (free_on path && (not (entails p b v c) && true)) = list_all-append (free p v) path (Negative b c ∷ []) in
       let up_more : IsTrue (by_u more) → IsTrue (by_v more) = λ h.
       let g : IsTrue (by_u path && (true && true)) = sym in_u ∙ h in
       in_v ∙ both _ _ (up (first_of_both _ _ g)) refl in

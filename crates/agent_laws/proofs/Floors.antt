@@ -4,7 +4,7 @@ use Rattle.std.specs.Prelude.{map, slice_index, max, if◌then◌else◌}
 use Rattle.agent_core.specs.Agents.{Agent, Constraint, Skip, Tell, Then, Else, Par, New, Hence, Next, agent_at}
 use Rattle.agent_core.specs.Programs.{CoreProgram}
 use Rattle.agent_core.specs.Listing.{size}
-use Rattle.agent_core.specs.Leaves.{Guard, Asks, Denies, leaves_of}
+use Rattle.agent_core.specs.Leaves.{Guard, Positive, Negative, leaves_of}
 use Rattle.agent_core.specs.Strata.{Each, Asked, asked_by, agent_edges, Meets, Stratifies}
 use Rattle.agent_laws.proofs.Eachs.{Each-map, Each-append, Each-parts}
 use Rattle.agent_laws.proofs.LeafLevels.{Under, LeafStratified, path-le}
@@ -60,46 +60,46 @@ leaves_stratified table t (Next a) n b path k h g = (tt, tt)
 leaves_stratified table t (Par l r) n b path k h g =
     Each-append (LeafStratified table) (leaves_of t l (suc n) b path) (leaves_of t r (suc n + size l) b path) (leaves_stratified table t l (suc n) b path k h.0 g) (leaves_stratified table t r (suc n + size l) b path k h.1 g)
 leaves_stratified table t (Then c a) n b path k h g =
-    leaves_stratified table t a (suc n) b (path ++ Asks b c ∷ []) (floor table 0 k c) h
-    (Each-append (Under table (floor table 0 k c)) path (Asks b c ∷ []) (path-le table k _ path (floor-above table 0 k c) g) (then_under table k _ c (omega arith), tt))
+    leaves_stratified table t a (suc n) b (path ++ Positive b c ∷ []) (floor table 0 k c) h
+    (Each-append (Under table (floor table 0 k c)) path (Positive b c ∷ []) (path-le table k _ path (floor-above table 0 k c) g) (then_under table k _ c (omega arith), tt))
 leaves_stratified table t (Else c a) n b path k h g =
-    leaves_stratified table t a (suc n) b (path ++ Denies b c ∷ []) (floor table 1 k c) h
-    (Each-append (Under table (floor table 1 k c)) path (Denies b c ∷ []) (path-le table k _ path (floor-above table 1 k c) g) (else_under table k _ c (omega arith), tt))
+    leaves_stratified table t a (suc n) b (path ++ Negative b c ∷ []) (floor table 1 k c) h
+    (Each-append (Under table (floor table 1 k c)) path (Negative b c ∷ []) (path-le table k _ path (floor-above table 1 k c) g) (else_under table k _ c (omega arith), tt))
 leaves_stratified table t (New cell a) n b path k h g = leaves_stratified table t a (suc n) (b ++ t ∷ []) path k h g
 
 -- THE SAME BY EDGES
 
 abbrev weight : Bool → ℕ
-weight strict = if strict then 1 else 0
+weight negative = if negative then 1 else 0
 
 -- k is the least number that a path allows
 pub record IsFloor (table : List ℕ) (path : List Asked) (k : ℕ) : Type 0 where
-  pub each : Each (λ g. slice_index table g.cell + weight g.strict ≤ k) path
-  pub least : (m : ℕ) → Each (λ g. slice_index table g.cell + weight g.strict ≤ m) path → k ≤ m
+  pub each : Each (λ g. slice_index table g.cell + weight g.negative ≤ k) path
+  pub least : (m : ℕ) → Each (λ g. slice_index table g.cell + weight g.negative ≤ m) path → k ≤ m
 
-floor-is : (table : List ℕ) (n : ℕ) (strict : Bool) (c : Constraint) (path : List Asked) (k : ℕ) → IsFloor table path k → IsFloor table (path ++ asked_by n strict c) (floor table (weight strict) k c)
-floor-is table n strict c path k h = record {
-  each = Each-append (λ g. slice_index table g.cell + weight g.strict ≤ floor table (weight strict) k c) path (asked_by n strict c)
-      (Each-map (λ g. slice_index table g.cell + weight g.strict ≤ k) (λ g. slice_index table g.cell + weight g.strict ≤ floor table (weight strict) k c) (λ g le. let a = floor-above table (weight strict) k c in omega arith) path h.each) (mine c k);
-  least = λ m e. let r = Each-parts (λ g. slice_index table g.cell + weight g.strict ≤ m) path (asked_by n strict c) e in within c k m (h.least m r.0) r.1;
+floor-is : (table : List ℕ) (n : ℕ) (negative : Bool) (c : Constraint) (path : List Asked) (k : ℕ) → IsFloor table path k → IsFloor table (path ++ asked_by n negative c) (floor table (weight negative) k c)
+floor-is table n negative c path k h = record {
+  each = Each-append (λ g. slice_index table g.cell + weight g.negative ≤ floor table (weight negative) k c) path (asked_by n negative c)
+      (Each-map (λ g. slice_index table g.cell + weight g.negative ≤ k) (λ g. slice_index table g.cell + weight g.negative ≤ floor table (weight negative) k c) (λ g le. let a = floor-above table (weight negative) k c in omega arith) path h.each) (mine c k);
+  least = λ m e. let r = Each-parts (λ g. slice_index table g.cell + weight g.negative ≤ m) path (asked_by n negative c) e in within c k m (h.least m r.0) r.1;
 }
   where
-    mine : (c : Constraint) (k : ℕ) → Each (λ g. slice_index table g.cell + weight g.strict ≤ floor table (weight strict) k c) (asked_by n strict c)
+    mine : (c : Constraint) (k : ℕ) → Each (λ g. slice_index table g.cell + weight g.negative ≤ floor table (weight negative) k c) (asked_by n negative c)
     mine [] k = tt
-    mine (x ∷ c) k = (let a = floor-above table (weight strict) (max k (slice_index table x.0 + weight strict)) c in omega arith, mine c (max k (slice_index table x.0 + weight strict)))
+    mine (x ∷ c) k = (let a = floor-above table (weight negative) (max k (slice_index table x.0 + weight negative)) c in omega arith, mine c (max k (slice_index table x.0 + weight negative)))
 
-    within : (c : Constraint) (k m : ℕ) → k ≤ m → Each (λ g. slice_index table g.cell + weight g.strict ≤ m) (asked_by n strict c) → floor table (weight strict) k c ≤ m
+    within : (c : Constraint) (k m : ℕ) → k ≤ m → Each (λ g. slice_index table g.cell + weight g.negative ≤ m) (asked_by n negative c) → floor table (weight negative) k c ≤ m
     within [] k m le e = le
-    within (x ∷ c) k m le e = within c (max k (slice_index table x.0 + weight strict)) m (let a = e.0 in omega arith) e.1
+    within (x ∷ c) k m le e = within c (max k (slice_index table x.0 + weight negative)) m (let a = e.0 in omega arith) e.1
 
 pub start-is : (table : List ℕ) → IsFloor table [] 0
 start-is table = record { each = tt; least = λ m e. omega arith }
 
-edges_of-meet : (table : List ℕ) (n d : ℕ) (path : List Asked) → Each (Meets table) (map (λ g. record { guard = g; tell = n; told = d }) path) → Each (λ g. slice_index table g.cell + weight g.strict ≤ slice_index table d) path
+edges_of-meet : (table : List ℕ) (n d : ℕ) (path : List Asked) → Each (Meets table) (map (λ g. record { guard = g; tell = n; told = d }) path) → Each (λ g. slice_index table g.cell + weight g.negative ≤ slice_index table d) path
 edges_of-meet table n d [] h = tt
 edges_of-meet table n d (g ∷ path) h = (h.0, edges_of-meet table n d path h.1)
 
-meet-edges_of : (table : List ℕ) (n d : ℕ) (path : List Asked) → Each (λ g. slice_index table g.cell + weight g.strict ≤ slice_index table d) path → Each (Meets table) (map (λ g. record { guard = g; tell = n; told = d }) path)
+meet-edges_of : (table : List ℕ) (n d : ℕ) (path : List Asked) → Each (λ g. slice_index table g.cell + weight g.negative ≤ slice_index table d) path → Each (Meets table) (map (λ g. record { guard = g; tell = n; told = d }) path)
 meet-edges_of table n d [] h = tt
 meet-edges_of table n d (g ∷ path) h = (h.0, meet-edges_of table n d path h.1)
 
@@ -113,7 +113,7 @@ floor-tell : (table : List ℕ) (n : ℕ) (c : Constraint) (path : List Asked) (
 floor-tell table n [] path k is h = tt
 floor-tell table n (x ∷ c) path k is h =
     Each-append (Meets table) (map (λ g. record { guard = g; tell = n; told = x.0 }) path) (agent_edges n (Tell c) path)
-    (meet-edges_of table n x.0 path (Each-map (λ g. slice_index table g.cell + weight g.strict ≤ k) (λ g. slice_index table g.cell + weight g.strict ≤ slice_index table x.0) (λ g le. let a = h.0 in omega arith) path is.each))
+    (meet-edges_of table n x.0 path (Each-map (λ g. slice_index table g.cell + weight g.negative ≤ k) (λ g. slice_index table g.cell + weight g.negative ≤ slice_index table x.0) (λ g le. let a = h.0 in omega arith) path is.each))
     (floor-tell table n c path k is h.1)
 
 -- where every edge is met

@@ -15,14 +15,14 @@ use Rattle.agent_core.specs.Programs.{CoreProgram}
 use Rattle.agent_core.specs.Names.{Names, name_of, local_name, new_of}
 use Rattle.agent_core.specs.Stores.{IsStore, Below}
 use Rattle.agent_core.specs.Rests.{holds_at, holds, entails}
-use Rattle.agent_core.specs.Facts.{IsProgram}
-use Rattle.agent_core.specs.Leaves.{Guard, Asks, Denies, Leaf, tells}
+use Rattle.agent_core.specs.WellFormed.{IsWellFormed}
+use Rattle.agent_core.specs.Leaves.{Guard, Positive, Negative, Leaf, tells}
 use Rattle.agent_core.specs.Strata.{Each}
 use Rattle.agent_core.specs.Tellings.{tell_at, tell_all}
 use Rattle.agent_core.proofs.OneStore.{Below-antisym}
 use Rattle.agent_core.proofs.Told.{BelowAt, told-at}
 use Rattle.agent_core.proofs.Bools.{both, first_of_both, second_of_both}
-use Rattle.agent_core.specs.Scope.{TokenFits, AskFits}
+use Rattle.agent_core.specs.Scope.{TokenFits, ConstraintFits}
 use Rattle.agent_core.proofs.NewNodes.{new_of-found}
 use Rattle.agent_core.proofs.Tellings.{tell_all-least, tell_all-entails, tells_one, entails-above}
 use Rattle.agent_laws.specs.LeafRests.{asked, free}
@@ -34,11 +34,11 @@ use Rattle.agent_laws.proofs.LeafLevels.{Under, LeafStratified}
 
 -- each token of the guard fits
 abbrev pub GuardFits : CoreProgram → Guard → Type 0
-GuardFits p (Asks b c) = AskFits p b c
-GuardFits p (Denies b c) = AskFits p b c
+GuardFits p (Positive b c) = ConstraintFits p b c
+GuardFits p (Negative b c) = ConstraintFits p b c
 
 pub record LeafFits (p : CoreProgram) (table : List ℕ) (l : Leaf) : Type 0 where
-  pub told : AskFits p l.births (tells l.agent)
+  pub told : ConstraintFits p l.births (tells l.agent)
   pub path : Each (GuardFits p) l.path
   pub stratified : LeafStratified table l
 
@@ -54,7 +54,7 @@ cell_within p (Local m births) d (cell, body, new, found, long) =
     subst (λ (c : ℕ). c < length p.cells) (sym same) (slice_get_within p.cells cell d found)
 
 -- s strata, or more
-module _ (p : CoreProgram) (table : List ℕ) (s : ℕ) (low : AreBelow p table s) (is : IsProgram p) where
+module _ (p : CoreProgram) (table : List ℕ) (s : ℕ) (low : AreBelow p table s) (is : IsWellFormed p) where
   abbrev pub level_of : CellName → ℕ
   level_of q = slice_index table (cell_named p q)
 
@@ -76,7 +76,7 @@ module _ (p : CoreProgram) (table : List ℕ) (s : ℕ) (low : AreBelow p table 
       subst (λ (o : Option CellDecl). IsTrue (holds_at o p b w x.0 x.1)) (sym f.found)
       (upto (name_of p b x.0) (subst (λ (m : ℕ). m < k) (sym (name-level b x f)) lt) f.decl x.1 f.named f.fits (subst (λ (o : Option CellDecl). IsTrue (holds_at o p b u x.0 x.1)) f.found h))
 
-  entails-upto : (k : ℕ) (b : List ℕ) (u w : Valuation) (c : Constraint) → AskFits p b c → Each (λ x. slice_index table x.0 < k) c → Upto k u w → IsTrue (entails p b u c) → IsTrue (entails p b w c)
+  entails-upto : (k : ℕ) (b : List ℕ) (u w : Valuation) (c : Constraint) → ConstraintFits p b c → Each (λ x. slice_index table x.0 < k) c → Upto k u w → IsTrue (entails p b u c) → IsTrue (entails p b w c)
   entails-upto k b u w [] f lt upto h = refl
   entails-upto k b u w (x ∷ c) f lt upto h =
       both _ _ (holds-upto k b u w x f.0 lt.0 upto (first_of_both (holds p b u x) (entails p b u c) h)) (entails-upto k b u w c f.1 lt.1 upto (second_of_both (holds p b u x) (entails p b u c) h))
@@ -89,35 +89,35 @@ module _ (p : CoreProgram) (table : List ℕ) (s : ℕ) (low : AreBelow p table 
 
   pub asked-upto : (k m : ℕ) (u w : Valuation) (path : List Guard) → m < k → Each (GuardFits p) path → Each (Under table m) path → Upto k u w → IsTrue (list_all (asked p u) path) → IsTrue (list_all (asked p w) path)
   asked-upto k m u w [] lt f under upto h = refl
-  asked-upto k m u w (Asks b c ∷ path) lt f under upto h =
+  asked-upto k m u w (Positive b c ∷ path) lt f under upto h =
       both _ _ (entails-upto k b u w c f.0 (weaken k m c lt under.0) upto (first_of_both (entails p b u c) (list_all (asked p u) path) h)) (asked-upto k m u w path lt f.1 under.1 upto (second_of_both (entails p b u c) (list_all (asked p u) path) h))
-  asked-upto k m u w (Denies b c ∷ path) lt f under upto h = asked-upto k m u w path lt f.1 under.1 upto h
+  asked-upto k m u w (Negative b c ∷ path) lt f under upto h = asked-upto k m u w path lt f.1 under.1 upto h
 
   pub free-down : (k m : ℕ) (u w : Valuation) (path : List Guard) → m ≤ k → Each (GuardFits p) path → Each (Under table m) path → Upto k u w → IsTrue (list_all (free p w) path) → IsTrue (list_all (free p u) path)
   free-down k m u w [] le f under upto h = refl
-  free-down k m u w (Asks b c ∷ path) le f under upto h = free-down k m u w path le f.1 under.1 upto h
-  free-down k m u w (Denies b c ∷ path) le f under upto h =
+  free-down k m u w (Positive b c ∷ path) le f under upto h = free-down k m u w path le f.1 under.1 upto h
+  free-down k m u w (Negative b c ∷ path) le f under upto h =
       both _ _ (not_up (entails p b w c) (entails p b u c) (entails-upto k b u w c f.0 (below_low k m c le under.0) upto) (first_of_both (not (entails p b w c)) (list_all (free p w) path) h))
       (free-down k m u w path le f.1 under.1 upto (second_of_both (not (entails p b w c)) (list_all (free p w) path) h))
 
-  each_low : (b : List ℕ) (c : Constraint) → AskFits p b c → Each (λ x. slice_index table x.0 < s) c
+  each_low : (b : List ℕ) (c : Constraint) → ConstraintFits p b c → Each (λ x. slice_index table x.0 < s) c
   each_low b [] f = tt
   each_low b (x ∷ c) f = (low x.0 (slice_get_within p.cells x.0 f.0.decl f.0.found), each_low b c f.1)
 
   -- no guard asks for a cell of a number above all
   under_all : (path : List Guard) → Each (GuardFits p) path → Each (Under table s) path
   under_all [] f = tt
-  under_all (Asks b c ∷ path) f = (Each-map (λ x. slice_index table x.0 < s) (λ x. slice_index table x.0 ≤ s) (λ x lt. omega arith) c (each_low b c f.0), under_all path f.1)
-  under_all (Denies b c ∷ path) f = (each_low b c f.0, under_all path f.1)
+  under_all (Positive b c ∷ path) f = (Each-map (λ x. slice_index table x.0 < s) (λ x. slice_index table x.0 ≤ s) (λ x lt. omega arith) c (each_low b c f.0), under_all path f.1)
+  under_all (Negative b c ∷ path) f = (each_low b c f.0, under_all path f.1)
 
   under-min : (k m : ℕ) (path : List Guard) → Each (Under table k) path → Each (Under table m) path → Each (Under table (min k m)) path
   under-min k m [] h g = tt
-  under-min k m (Asks b c ∷ path) h g = (go c h.0 g.0, under-min k m path h.1 g.1)
+  under-min k m (Positive b c ∷ path) h g = (go c h.0 g.0, under-min k m path h.1 g.1)
     where
       go : (c : Constraint) → Each (λ x. slice_index table x.0 ≤ k) c → Each (λ x. slice_index table x.0 ≤ m) c → Each (λ x. slice_index table x.0 ≤ min k m) c
       go [] h g = tt
       go (x ∷ c) h g = (le-min h.0 g.0, go c h.1 g.1)
-  under-min k m (Denies b c ∷ path) h g = (go c h.0 g.0, under-min k m path h.1 g.1)
+  under-min k m (Negative b c ∷ path) h g = (go c h.0 g.0, under-min k m path h.1 g.1)
     where
       go : (c : Constraint) → Each (λ x. slice_index table x.0 < k) c → Each (λ x. slice_index table x.0 < m) c → Each (λ x. slice_index table x.0 < min k m) c
       go [] h g = tt
@@ -135,7 +135,7 @@ module _ (p : CoreProgram) (table : List ℕ) (s : ℕ) (low : AreBelow p table 
       (a, least-below m told b)
 
   -- told tokens change no more than needed, stratum by stratum
-  pub tell_all-upto : (k m : ℕ) (b : List ℕ) (told : Constraint) (u w : Valuation) → AskFits p b told → Each (λ x. m ≤ slice_index table x.0) told → IsStore p u → IsStore p w → Upto k u w
+  pub tell_all-upto : (k m : ℕ) (b : List ℕ) (told : Constraint) (u w : Valuation) → ConstraintFits p b told → Each (λ x. m ≤ slice_index table x.0) told → IsStore p u → IsStore p w → Upto k u w
       → (m < k → IsTrue (entails p b w told)) → Upto k (tell_all p b told u) w
   tell_all-upto k m b [] u w f le iu iw upto sat = upto
   tell_all-upto k m b (x ∷ told) u w f le iu iw upto sat =

@@ -11,7 +11,7 @@ use Rattle.agent_core.specs.Agents.{Agent, Skip, Tell, Then, Else, Par, New, Hen
 use Rattle.agent_core.specs.Programs.{CoreProgram}
 use Rattle.agent_core.specs.Listing.{size, listing, IsListing}
 use Rattle.agent_core.specs.Rests.{entails}
-use Rattle.agent_core.specs.Observed.{suffixes}
+use Rattle.agent_core.specs.RestsAfter.{suffixes}
 use Rattle.agent_core.specs.Closures.{closure, sorted, started, roots}
 use Rattle.agent_core.specs.Strata.{Each}
 use Rattle.agent_core.proofs.Standing.{StandsAt, stands-tail}

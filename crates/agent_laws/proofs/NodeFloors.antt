@@ -4,7 +4,7 @@ use Rattle.agent_core.specs.declared.node.Node.{Node}
 use Rattle.agent_core.specs.Agents.{Agent, agent_at}
 use Rattle.agent_core.specs.Programs.{CoreProgram}
 use Rattle.agent_core.specs.Listing.{listing}
-use Rattle.agent_core.specs.Facts.{IsProgram}
+use Rattle.agent_core.specs.WellFormed.{IsWellFormed}
 use Rattle.agent_core.specs.Strata.{Stratifies}
 use Rattle.agent_core.proofs.Standing.{StandsAt, stands-tail}
 use Rattle.agent_core.proofs.ListingTrees.{left_listed, right_listed, listed_tree}
@@ -27,7 +27,7 @@ HasFloors-goes_down all table = record {
   next_body = λ n locals a h. record { listed = stands-tail h.listed; floors = h.floors };
 }
 
-pub node_floors : (p : CoreProgram) (table : List ℕ) → IsProgram p → Stratifies p table → (n : ℕ) → n < length p.nodes → Floors table (agent_at p.nodes n) 0
+pub node_floors : (p : CoreProgram) (table : List ℕ) → IsWellFormed p → Stratifies p table → (n : ℕ) → n < length p.nodes → Floors table (agent_at p.nodes n) 0
 node_floors p table is strat n lt =
     let long = size-root p.nodes is.tree in
     let root : HasFloors p.nodes table 0 [] (agent_at p.nodes 0) = record { listed = (root_place p.nodes is.tree).listed; floors = root_floors p table strat } in

@@ -2,7 +2,7 @@
 use Rattle.std.proofs.Common.{◌≡◌, ℕ, List, length, sym, ◌∙◌}
 use Rattle.token_system.specs.Stores.{Valuation}
 use Rattle.agent_core.specs.Programs.{CoreProgram}
-use Rattle.agent_core.specs.Facts.{IsProgram}
+use Rattle.agent_core.specs.WellFormed.{IsWellFormed}
 use Rattle.agent_core.specs.Stores.{IsStore}
 use Rattle.agent_core.specs.Outputs.{IsOutput}
 use Rattle.agent_core.specs.Closures.{roots}
@@ -13,7 +13,7 @@ use Rattle.agent_laws.proofs.RootRests.{obs-roots}
 use Rattle.agent_laws.proofs.ClosureOutputs.{closures-have_output, closures-one_output}
 
 -- the outputs of a program are those of its roots
-pub output-of_roots : (p : CoreProgram) → IsProgram p → (z : List Valuation) (i v : Valuation) → IsOutputOf p (roots p z) (length z) i v → IsOutput p z i v
+pub output-of_roots : (p : CoreProgram) → IsWellFormed p → (z : List Valuation) (i v : Valuation) → IsOutputOf p (roots p z) (length z) i v → IsOutput p z i v
 output-of_roots p is z i v out = record {
   given = out.given;
   store = out.store;
@@ -22,7 +22,7 @@ output-of_roots p is z i v out = record {
   least = λ u iu low high h. out.least u iu low high (sym (obs-roots p z u v is.tree) ∙ h);
 }
 
-pub roots_of-output : (p : CoreProgram) → IsProgram p → (z : List Valuation) (i v : Valuation) → IsOutput p z i v → IsOutputOf p (roots p z) (length z) i v
+pub roots_of-output : (p : CoreProgram) → IsWellFormed p → (z : List Valuation) (i v : Valuation) → IsOutput p z i v → IsOutputOf p (roots p z) (length z) i v
 roots_of-output p is z i v out = record {
   given = out.given;
   store = out.store;
@@ -31,7 +31,7 @@ roots_of-output p is z i v out = record {
   least = λ u iu low high h. out.least u iu low high (obs-roots p z u v is.tree ∙ h);
 }
 
-module _ (p : CoreProgram) (table : List ℕ) (is : IsProgram p) (strat : Stratifies p table) (z : List Valuation) where
+module _ (p : CoreProgram) (table : List ℕ) (is : IsWellFormed p) (strat : Stratifies p table) (z : List Valuation) where
   pub has_output : (i : Valuation) → IsStore p i → (v : Valuation) × IsOutput p z i v
   has_output i ii =
       let h = closures-have_output p table is strat (roots p z) (roots-closures p is z) (length z) i ii in

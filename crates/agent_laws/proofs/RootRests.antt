@@ -13,7 +13,7 @@ use Rattle.agent_core.specs.Agents.{Agent, Skip, Tell, Then, Else, Par, New, Hen
 use Rattle.agent_core.specs.Programs.{CoreProgram}
 use Rattle.agent_core.specs.Listing.{size, listing, IsListing}
 use Rattle.agent_core.specs.Rests.{◌⇒◌, entails, agent_rests, rests}
-use Rattle.agent_core.specs.Observed.{suffixes, agent_obs, obs}
+use Rattle.agent_core.specs.RestsAfter.{suffixes, rests_after, obs}
 use Rattle.agent_core.specs.Closures.{closure_cmp, put_by, put, sorted, started, roots}
 use Rattle.agent_core.specs.Strata.{Each}
 use Rattle.agent_core.specs.RootOutputs.{roots_rest}
@@ -69,7 +69,7 @@ module _ (p : CoreProgram) (u v : Valuation) (t : ℕ) where
   each_started f g (y ∷ ys) h = par_started (f y) (list_all f ys) (g y) (flat_map g ys) h.0 (each_started f g ys h.1)
 
   pub started-rests : (a : Agent) (z : List Valuation) (n : ℕ) (b : List ℕ) (s : ℕ) → StandsAt Node p.nodes n (listing n a) → s + length z ≡ t
-      → agent_obs p u v z a b s ≡ all_rest (started p z a n b s)
+      → rests_after p u v z a b s ≡ all_rest (started p z a n b s)
   started-rests a [] n b s at e =
       let now : s ≡ t = omega arith in
       ap (λ m. agent_rests p m v a b u) now ∙ ap (λ x. agent_rests p t v x b u) (sym (listed_tree p.nodes n a at)) ∙ sym (and-true (rests p n b t u v))
@@ -83,8 +83,8 @@ module _ (p : CoreProgram) (u v : Valuation) (t : ℕ) where
   started-rests (New cell a) (w ∷ z) n b s at e = started-rests a (w ∷ z) (suc n) (b ++ s ∷ []) s (stands-tail at) e
   started-rests (Next a) (w ∷ z) n b s at e = started-rests a z (suc n) b (s + 1) (stands-tail at) (omega arith)
   started-rests (Hence a) (w ∷ z) n b s at e =
-      each_started (λ y. agent_obs p u v y a b (s + 1 + length z - length y)) (λ y. started p y a (suc n) b (s + 1 + length z - length y)) (suffixes z)
-      (Each-map (λ y. length y ≤ length z) (λ y. agent_obs p u v y a b (s + 1 + length z - length y) ≡ all_rest (started p y a (suc n) b (s + 1 + length z - length y)))
+      each_started (λ y. rests_after p u v y a b (s + 1 + length z - length y)) (λ y. started p y a (suc n) b (s + 1 + length z - length y)) (suffixes z)
+      (Each-map (λ y. length y ≤ length z) (λ y. rests_after p u v y a b (s + 1 + length z - length y) ≡ all_rest (started p y a (suc n) b (s + 1 + length z - length y)))
       (λ y le. started-rests a y (suc n) b (s + 1 + length z - length y) (stands-tail at) (omega arith)) (suffixes z) (suffixes-length z))
 
 -- what is seen over z is what the closures that are started now do

@@ -8,7 +8,7 @@ use Rattle.std.proofs.lemmas.Option.{slice_get-get_or, slice_get_within}
 use Rattle.token_system.specs.Stores.{Valuation}
 use Rattle.agent_core.specs.Programs.{CoreProgram}
 use Rattle.agent_core.specs.Stores.{IsStore}
-use Rattle.agent_core.specs.Facts.{IsProgram}
+use Rattle.agent_core.specs.WellFormed.{IsWellFormed}
 use Rattle.agent_core.specs.Outputs.{IsOutput, IsRun}
 use Rattle.agent_core.specs.Strata.{Stratifies}
 use Rattle.agent_core.proofs.Standing.{StandsAt, stands-head}
@@ -51,7 +51,7 @@ run-push p ins outs i v run out = record {
         subst (λ (z : List Valuation). IsOutput p z j x) (sym (ap (λ (k : ℕ). take k (outs ++ v ∷ [])) e ∙ take-append_seam outs (v ∷ [])))
         (subst (λ (y : Valuation). IsOutput p outs y x) a (subst (λ (y : Valuation). IsOutput p outs i y) b out))
 
-module _ (p : CoreProgram) (table : List ℕ) (is : IsProgram p) (strat : Stratifies p table) (ins : List Valuation) (stores : All (IsStore p) ins) where
+module _ (p : CoreProgram) (table : List ℕ) (is : IsWellFormed p) (strat : Stratifies p table) (ins : List Valuation) (stores : All (IsStore p) ins) where
   runs_upto : (k : ℕ) → k ≤ length ins → (outs : List Valuation) × IsRun p (take k ins) outs
   runs_upto zero le = ([], record { whole = refl; each = λ n i v ei ev. absurd (let h = slice_get_within [] n i ei in omega arith) })
   runs_upto (suc k) le =
@@ -69,7 +69,7 @@ module _ (p : CoreProgram) (table : List ℕ) (is : IsProgram p) (strat : Strati
       (r.0, subst (λ (z : List Valuation). IsRun p z r.0) (take-length ins) r.1)
 
 -- and there is no other
-module _ (p : CoreProgram) (table : List ℕ) (is : IsProgram p) (strat : Stratifies p table) (ins a b : List Valuation) (ra : IsRun p ins a) (rb : IsRun p ins b) where
+module _ (p : CoreProgram) (table : List ℕ) (is : IsWellFormed p) (strat : Stratifies p table) (ins a b : List Valuation) (ra : IsRun p ins a) (rb : IsRun p ins b) where
   same_upto : (k : ℕ) → k ≤ length ins → take k a ≡ take k b
   same_upto zero le = refl
   same_upto (suc k) le =

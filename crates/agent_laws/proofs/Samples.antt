@@ -1,7 +1,7 @@
 -- The small programs that are worked out are programs, and some are stratified: so the laws are of something.
 use Rattle.std.proofs.Common.{inl, inr, zero, suc, [], ◌∷◌, refl, arith}
 use Rattle.agent_core.specs.Agents.{Agent, Tell, Else, Par, New, Hence}
-use Rattle.agent_core.specs.Facts.{IsConstraint, IsProgram}
+use Rattle.agent_core.specs.WellFormed.{IsConstraint, IsWellFormed}
 use Rattle.agent_core.specs.Strata.{Stratifies, IsLeastTable, HasNoTable, IsFirstCase}
 use Rattle.agent_core.specs.Worked.{a_decl, a_on, over_a, self_defeating}
 use Rattle.agent_laws.specs.Worked.{signal, on, by_default, own_case, later_twice, ever_more}
@@ -9,7 +9,7 @@ use Rattle.agent_laws.specs.Worked.{signal, on, by_default, own_case, later_twic
 a_constraint : (a : Agent) → IsConstraint (over_a a) [] a_on
 a_constraint a = record { some = omega arith; few = omega arith; tokens = (record { visible = inl (omega arith); decl = a_decl; found = refl; fits = refl }, tt) }
 
-pub self_defeating-program : IsProgram self_defeating
+pub self_defeating-program : IsWellFormed self_defeating
 self_defeating-program = record {
   tree = (Else a_on (Tell a_on), refl);
   locals = refl;
@@ -17,7 +17,7 @@ self_defeating-program = record {
   limits = record { few_nodes = omega arith; few_cells = omega arith; few_declared = omega arith; within = omega arith };
 }
 
-pub later_twice-program : IsProgram later_twice
+pub later_twice-program : IsWellFormed later_twice
 later_twice-program = record {
   tree = (Hence (Hence (Tell a_on)), refl);
   locals = refl;
@@ -25,7 +25,7 @@ later_twice-program = record {
   limits = record { few_nodes = omega arith; few_cells = omega arith; few_declared = omega arith; within = omega arith };
 }
 
-pub by_default-program : IsProgram by_default
+pub by_default-program : IsWellFormed by_default
 by_default-program = record {
   tree = (Else a_on (Tell (on 1)), refl);
   locals = refl;
@@ -36,7 +36,7 @@ by_default-program = record {
   limits = record { few_nodes = omega arith; few_cells = omega arith; few_declared = omega arith; within = omega arith };
 }
 
-pub ever_more-program : IsProgram ever_more
+pub ever_more-program : IsWellFormed ever_more
 ever_more-program = record {
   tree = (Par (New 0 (Hence (Tell (on 0)))) (Hence (New 1 (Hence (Tell (on 1))))), refl);
   locals = refl;

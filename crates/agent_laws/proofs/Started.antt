@@ -5,10 +5,10 @@ use Rattle.agent_core.specs.declared.node.Closure.{Closure}
 use Rattle.agent_core.specs.Agents.{Agent, Skip, Tell, Then, Else, Par, New, Hence, Next, agent_at}
 use Rattle.agent_core.specs.Programs.{CoreProgram}
 use Rattle.agent_core.specs.Listing.{size}
-use Rattle.agent_core.specs.Facts.{IsProgram}
+use Rattle.agent_core.specs.WellFormed.{IsWellFormed}
 use Rattle.agent_core.specs.Names.{IsClosure}
 use Rattle.agent_core.specs.Rests.{entails}
-use Rattle.agent_core.specs.Observed.{suffixes}
+use Rattle.agent_core.specs.RestsAfter.{suffixes}
 use Rattle.agent_core.specs.Closures.{started, roots}
 use Rattle.agent_core.specs.Strata.{Each}
 use Rattle.agent_core.proofs.Places.{Place, Place-goes_down, root_place, depth_of-place, size-within}
@@ -40,5 +40,5 @@ module _ (p : CoreProgram) where
       (λ y. started-closures a y (suc n) b (s + 1 + length z - length y) locals ((Place-goes_down p.nodes).hence_body n locals a at) e) (suffixes z)
 
   -- the roots of an instant are closures of the program
-  pub roots-closures : IsProgram p → (z : List Valuation) → Each IsOwn (roots p z)
+  pub roots-closures : IsWellFormed p → (z : List Valuation) → Each IsOwn (roots p z)
   roots-closures is z = each_sorted IsOwn (started p z (agent_at p.nodes 0) 0 [] 0) (started-closures (agent_at p.nodes 0) z 0 [] 0 [] (root_place p.nodes is.tree) refl)

@@ -4,10 +4,10 @@ use Rattle.std.specs.List.{list_all}
 use Rattle.token_system.specs.Stores.{Valuation}
 use Rattle.agent_core.specs.declared.node.Closure.{Closure}
 use Rattle.agent_core.specs.Programs.{CoreProgram}
-use Rattle.agent_core.specs.Facts.{IsProgram}
+use Rattle.agent_core.specs.WellFormed.{IsWellFormed}
 use Rattle.agent_core.specs.Names.{IsClosure}
 use Rattle.agent_core.specs.Stores.{IsStore, Below}
-use Rattle.agent_core.specs.Observed.{obs}
+use Rattle.agent_core.specs.RestsAfter.{obs}
 use Rattle.agent_core.specs.Outputs.{IsOutput, IsRun}
 use Rattle.agent_core.specs.Closures.{closure, sorted, roots}
 use Rattle.agent_core.specs.Leaves.{leaves}
@@ -33,28 +33,28 @@ SortedIsInOrder = (cs : List Closure) → IsSortedOf cs (sorted cs) × ((xs : Li
 -- closures of a program that a table stratifies have exactly one output on each input, at whatever instant they are started
 abbrev pub RootsHaveOneOutput : Type 0
 RootsHaveOneOutput =
-    (p : CoreProgram) (table : List ℕ) → IsProgram p → Stratifies p table
+    (p : CoreProgram) (table : List ℕ) → IsWellFormed p → Stratifies p table
     → (rs : List Closure) → AreClosures p rs → (t : ℕ) (i : Valuation) → IsStore p i → ExactlyOne (IsOutputOf p rs t i)
 
 -- and that output is the input with what the leaves tell that it runs
 abbrev pub OutputsAreTold : Type 0
 OutputsAreTold =
-    (p : CoreProgram) (table : List ℕ) → IsProgram p → Stratifies p table
+    (p : CoreProgram) (table : List ℕ) → IsWellFormed p → Stratifies p table
     → (rs : List Closure) → AreClosures p rs → (t : ℕ) (i v : Valuation) → IsOutputOf p rs t i v → tell_ran p v (leaves p rs t) i ≡ v
 
 -- where u is below v, closures rest under (u, v) exactly where each of their leaves does
 abbrev pub RestsByLeaves : Type 0
 RestsByLeaves =
-    (p : CoreProgram) → IsProgram p → (rs : List Closure) → AreClosures p rs → (t : ℕ) (u v : Valuation) → Below p u v
+    (p : CoreProgram) → IsWellFormed p → (rs : List Closure) → AreClosures p rs → (t : ℕ) (u v : Valuation) → Below p u v
     → roots_rest p rs t u v ≡ list_all (leaf_rests p u v) (leaves p rs t)
 
 -- after closed stores the program rests exactly where the roots of the instant do
 abbrev pub RestsByRoots : Type 0
-RestsByRoots = (p : CoreProgram) → IsProgram p → (z : List Valuation) (u v : Valuation) → obs p 0 [] 0 z u v ≡ roots_rest p (roots p z) (length z) u v
+RestsByRoots = (p : CoreProgram) → IsWellFormed p → (z : List Valuation) (u v : Valuation) → obs p 0 [] 0 z u v ≡ roots_rest p (roots p z) (length z) u v
 
 -- the roots of an instant are closures of the program, and at instant 0 the root alone
 abbrev pub RootsAreClosures : Type 0
-RootsAreClosures = (p : CoreProgram) → IsProgram p → (z : List Valuation) → AreClosures p (roots p z)
+RootsAreClosures = (p : CoreProgram) → IsWellFormed p → (z : List Valuation) → AreClosures p (roots p z)
 
 abbrev pub StartsAtRoot : Type 0
 StartsAtRoot = (p : CoreProgram) → roots p [] ≡ closure 0 [] ∷ []
@@ -62,17 +62,17 @@ StartsAtRoot = (p : CoreProgram) → roots p [] ≡ closure 0 [] ∷ []
 -- a program that a table stratifies has exactly one output on each input, after whatever closed stores
 abbrev pub ProgramHasOneOutput : Type 0
 ProgramHasOneOutput =
-    (p : CoreProgram) (table : List ℕ) → IsProgram p → Stratifies p table
+    (p : CoreProgram) (table : List ℕ) → IsWellFormed p → Stratifies p table
     → (z : List Valuation) (i : Valuation) → IsStore p i → ExactlyOne (IsOutput p z i)
 
 -- and exactly one run on each list of inputs
 abbrev pub ProgramHasOneRun : Type 0
 ProgramHasOneRun =
-    (p : CoreProgram) (table : List ℕ) → IsProgram p → Stratifies p table
+    (p : CoreProgram) (table : List ℕ) → IsWellFormed p → Stratifies p table
     → (ins : List Valuation) → All (IsStore p) ins → ExactlyOne (IsRun p ins)
 
 -- after one more closed store: the roots that stay, and those that the leaves start which the store runs
 abbrev pub NextRootsFollow : Type 0
 NextRootsFollow =
-    (p : CoreProgram) → IsProgram p → (z : List Valuation) (w : Valuation)
+    (p : CoreProgram) → IsWellFormed p → (z : List Valuation) (w : Valuation)
     → roots p (z ++ w ∷ []) ≡ sorted (next_of p w (length z) (roots p z))

@@ -4,17 +4,17 @@ use Rattle.std.specs.List.{list_all}
 use Rattle.token_system.specs.Stores.{Valuation}
 use Rattle.agent_core.specs.Programs.{CoreProgram}
 use Rattle.agent_core.specs.Rests.{◌⇒◌, entails}
-use Rattle.agent_core.specs.Leaves.{Guard, Asks, Denies, Leaf, tells}
+use Rattle.agent_core.specs.Leaves.{Guard, Positive, Negative, Leaf, tells}
 
 -- the store entails the guard, where it is a then ask
 abbrev pub asked : CoreProgram → Valuation → Guard → Bool
-asked p u (Asks b c) = entails p b u c
-asked p u (Denies b c) = true
+asked p u (Positive b c) = entails p b u c
+asked p u (Negative b c) = true
 
 -- the store does not entail the guard, where it is an else ask
 abbrev pub free : CoreProgram → Valuation → Guard → Bool
-free p v (Asks b c) = true
-free p v (Denies b c) = not (entails p b v c)
+free p v (Positive b c) = true
+free p v (Negative b c) = not (entails p b v c)
 
 -- where the path is free, what is told is in u if it is asked by u, and in v if it is asked by v
 abbrev pub path_rests : Bool → Bool → Bool → Bool → Bool → Bool

@@ -10,7 +10,7 @@ use Rattle.agent_core.specs.declared.node.CellDecl.{CellDecl}
 use Rattle.agent_core.specs.Agents.{Constraint, Tell, Else, Par, New, Hence}
 use Rattle.agent_core.specs.Programs.{CoreProgram}
 use Rattle.agent_core.specs.Listing.{listing}
-use Rattle.agent_core.specs.Facts.{IsProgram}
+use Rattle.agent_core.specs.WellFormed.{IsWellFormed}
 use Rattle.agent_core.specs.Outputs.{IsOutput}
 use Rattle.agent_core.specs.Closures.{closure, roots}
 use Rattle.agent_core.specs.Leaves.{leaves, ran}
@@ -33,7 +33,7 @@ only_b = insert empty (Declared 1) (values.Signal true false)
 
 -- `b` stands above `a`, and no lesser table serves; where nothing is told `b` is, and where `a` is told nothing more is
 pub record TellsByDefault : Type 0 where
-  pub program : IsProgram by_default
+  pub program : IsWellFormed by_default
   pub table : Stratifies by_default (0 ∷ 1 ∷ [])
   pub least : IsLeastTable by_default (0 ∷ 1 ∷ [])
   pub absent : IsOutput by_default [] nothing only_b
@@ -43,11 +43,11 @@ pub record TellsByDefault : Type 0 where
 
 -- the case of `if a else a`
 abbrev pub own_case : Edge
-own_case = record { guard = record { node = 0; cell = 0; strict = true }; tell = 1; told = 0 }
+own_case = record { guard = record { node = 0; cell = 0; negative = true }; tell = 1; told = 0 }
 
 -- `if a else a` has no table, since `a` reaches the else that it stands under
 pub record StandsOnItself : Type 0 where
-  pub program : IsProgram self_defeating
+  pub program : IsWellFormed self_defeating
   pub none : HasNoTable self_defeating
   pub first : IsFirstCase self_defeating own_case
 
@@ -61,7 +61,7 @@ later_twice = over_a (Hence (Hence (Tell a_on)))
 
 -- the inner hence is started at each instant but the first, and its body at each instant but the first two, as one closure
 pub record StartsLaterTwice : Type 0 where
-  pub program : IsProgram later_twice
+  pub program : IsWellFormed later_twice
   pub roots_0 : roots later_twice [] ≡ closure 0 [] ∷ []
   pub roots_1 : roots later_twice (nothing ∷ []) ≡ closure 1 [] ∷ []
   pub roots_2 : roots later_twice (nothing ∷ nothing ∷ []) ≡ closure 1 [] ∷ closure 2 [] ∷ []
@@ -77,7 +77,7 @@ ever_more = record { cells = signal 115 ∷ signal 115 ∷ []; declared = 0; nod
 
 -- so there is one leaf more at each instant but the second
 pub record StartsEverMore : Type 0 where
-  pub program : IsProgram ever_more
+  pub program : IsWellFormed ever_more
   pub table : Stratifies ever_more (0 ∷ 0 ∷ [])
   pub leaves_0 : leaf_count ever_more [] ≡ 2
   pub leaves_1 : leaf_count ever_more (nothing ∷ []) ≡ 2

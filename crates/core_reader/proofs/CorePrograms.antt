@@ -7,7 +7,7 @@ use Rattle.agent_core.specs.declared.node.CellDecl.{CellDecl}
 use Rattle.agent_core.specs.declared.node.Node.{Node}
 use Rattle.agent_core.specs.Programs.{CoreProgram}
 use Rattle.agent_core.specs.Listing as core
-use Rattle.agent_core.specs.Facts.{IsProgram, Scoped, cell_of, count_up}
+use Rattle.agent_core.specs.WellFormed.{IsWellFormed, Scoped, cell_of, count_up}
 use Rattle.agent_core.proofs.ListingTrees.{root_tree}
 use Rattle.tdcc_reader.specs.declared.dialect.Dialect.TheVariants as dialect
 use Rattle.tdcc_reader.specs.Trees.{Tree, Skip, Tell, Then, Else, Par, New, Hence, Next, Always, When, Watch, Time, form_count, form_listing}
@@ -20,7 +20,7 @@ use Rattle.surface_laws.proofs.LocalCells.{local_cells, program_counted}
 use Rattle.surface_laws.proofs.ScopedPhrases.{program_scoped}
 use Rattle.surface_laws.proofs.WellFormed.{accepted_fit, local_many}
 use Rattle.core_reader.specs.Trees.{tree_of}
-use Rattle.core_reader.specs.Forms.{form_of, IsCoreForm}
+use Rattle.core_reader.specs.Forms.{form_of_node, IsCoreForm}
 use Rattle.core_reader.specs.Readings.{IsCoreOf, AcceptsCore}
 use Rattle.core_reader.proofs.CoreTrees.{agent_of, program_core}
 use Rattle.core_reader.proofs.NodeForms.{forms_listed, same_nodes, core_forms}
@@ -54,7 +54,7 @@ core_tree : (text : List ℕ) (phrase : Phrase) → Accepts dialect.Core text ph
 core_tree text phrase a = program_core phrase a.is.spells.allowed
 
 -- the forms of an accepted core text are those of an agent's nodes
-forms_of : (text : List ℕ) (phrase : Phrase) (s : SurfaceProgram) → Accepts dialect.Core text phrase → IsSurfaceOf phrase s → s.forms ≡ map form_of (core.listing 0 (agent_of (program_tree phrase)))
+forms_of : (text : List ℕ) (phrase : Phrase) (s : SurfaceProgram) → Accepts dialect.Core text phrase → IsSurfaceOf phrase s → s.forms ≡ map form_of_node (core.listing 0 (agent_of (program_tree phrase)))
 forms_of text phrase s a is = is.forms ∙ ap (form_listing 0) (sym (core_tree text phrase a)) ∙ sym (forms_listed 0 (agent_of (program_tree phrase)))
 
 -- They are forms of the core.
@@ -62,7 +62,7 @@ pub surface_core : (text : List ℕ) (phrase : Phrase) (s : SurfaceProgram) → 
 surface_core text phrase s a is = subst (All IsCoreForm) (sym (forms_of text phrase s a is)) (core_forms (core.listing 0 (agent_of (program_tree phrase))))
 
 -- What has the forms and cells of an accepted core text is its core program.
-pub made_core : (text : List ℕ) (phrase : Phrase) (s : SurfaceProgram) (nodes : List Node) → Accepts dialect.Core text phrase → IsSurfaceOf phrase s → map form_of nodes ≡ s.forms
+pub made_core : (text : List ℕ) (phrase : Phrase) (s : SurfaceProgram) (nodes : List Node) → Accepts dialect.Core text phrase → IsSurfaceOf phrase s → map form_of_node nodes ≡ s.forms
     → IsCoreOf phrase (record { cells = s.cells; declared = s.declared; nodes = nodes })
 made_core text phrase s nodes a is e = record {
   agent = agent_of (program_tree phrase);
@@ -77,11 +77,11 @@ abbrev surface : CoreProgram → Phrase → SurfaceProgram
 surface p phrase = record { cells = p.cells; declared = p.declared; forms = form_listing 0 (program_tree phrase) }
 
 -- The core program of an accepted core text that keeps the limits on its form_count is a program.
-pub core_is_program : (text : List ℕ) (phrase : Phrase) (p : CoreProgram) → AcceptsCore text phrase → IsCoreOf phrase p → IsProgram p
+pub core_is_program : (text : List ℕ) (phrase : Phrase) (p : CoreProgram) → AcceptsCore text phrase → IsCoreOf phrase p → IsWellFormed p
 core_is_program text phrase p a is =
     let many : length p.cells ≡ p.declared + length (local_cells phrase) = local_many phrase (surface p phrase) (record { cells = is.cells; declared = is.declared; forms = refl }) in
     let local : length (local_cells phrase) ≡ length p.cells - p.declared = omega arith in
-    let listed : length p.nodes ≡ form_count (program_tree phrase) = ap length is.nodes ∙ sym (length-map (core.listing 0 is.agent) form_of) ∙ ap length (forms_listed 0 is.agent) ∙ length-listing 0 (tree_of is.agent) ∙ ap form_count is.tree in
+    let listed : length p.nodes ≡ form_count (program_tree phrase) = ap length is.nodes ∙ sym (length-map (core.listing 0 is.agent) form_of_node) ∙ ap length (forms_listed 0 is.agent) ∙ length-listing 0 (tree_of is.agent) ∙ ap form_count is.tree in
     let seen : length p.cells ≡ length (program_cells phrase) = sym (length-map p.cells cell_view) ∙ ap length is.cells in
     let nodes = a.few_nodes in
     let cells = a.few_cells in

@@ -3,7 +3,7 @@ use Rattle.std.proofs.Common.{◌≡◌, ◌≢◌, ◌⊎◌, inl, inr, Result,
 use Rattle.std.specs.Prelude.{nat_lt, if◌then◌else◌}
 use Rattle.std.proofs.lemmas.Bool.{lt-ltb, le-ltb}
 use Rattle.program_grammar.specs.Phrases.{ProgramPhrase as Phrase}
-use Rattle.agent_core.specs.Facts.{IsProgram}
+use Rattle.agent_core.specs.WellFormed.{IsWellFormed}
 use Rattle.agent_core.specs.Programs.{CoreProgram}
 use Rattle.tdcc_reader.specs.declared.dialect.Dialect.TheVariants as dialect
 use Rattle.tdcc_reader.specs.declared.fault.ReadFault.{ReadFault}
@@ -94,7 +94,7 @@ pub accepted_core : (text : List ℕ) (phrase : Phrase) (f : ReadFault) → f �
 accepted_core text phrase f m a r = let same : None ≡ Some f = one_verdict text None (Some f) (accepted text phrase a) (refused text f m r) in cc
 
 -- A text is one core program, which is a program.
-pub text_is_program : (text : List ℕ) (p : CoreProgram) → IsCoreText text p → IsProgram p
+pub text_is_program : (text : List ℕ) (p : CoreProgram) → IsCoreText text p → IsWellFormed p
 text_is_program text p (phrase, a, is) = core_is_program text phrase p a is
 
 pub one_core_text : (text : List ℕ) (p q : CoreProgram) → IsCoreText text p → IsCoreText text q → p ≡ q

@@ -3,7 +3,7 @@ use Rattle.std.proofs.Common.{◌≡◌, ℕ, suc, ◌+◌, List, [], ◌∷◌,
 use Rattle.std.specs.Prelude.{filter_map}
 use Rattle.std.proofs.lemmas.List.Elements.{filter_map-append}
 use Rattle.agent_core.specs.Agents.{Agent, Skip, Tell, Then, Else, Par, New, Hence, Next}
-use Rattle.agent_core.specs.Facts.{cell_of}
+use Rattle.agent_core.specs.WellFormed.{cell_of}
 use Rattle.agent_core.specs.Listing.{size, listing}
 use Rattle.surface_laws.specs.Surfaces.{new_cells}
 use Rattle.core_reader.specs.Trees.{tree_of}

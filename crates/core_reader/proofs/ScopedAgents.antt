@@ -5,7 +5,7 @@ use Rattle.token_system.specs.declared.cell.Token.{Token}
 use Rattle.agent_core.specs.declared.node.CellDecl.{CellDecl}
 use Rattle.agent_core.specs.Agents.{Agent, Constraint, Skip, Tell, Then, Else, Par, New, Hence, Next}
 use Rattle.agent_core.specs.Programs.{CoreProgram}
-use Rattle.agent_core.specs.Facts.{IsAmong, IsInScope, AreInScope, IsConstraint, Scoped}
+use Rattle.agent_core.specs.WellFormed.{IsAmong, IsInScope, AreInScope, IsConstraint, Scoped}
 use Rattle.surface_laws.specs.Surfaces as surface
 use Rattle.core_reader.specs.Trees.{tree_of}
 

@@ -6,15 +6,15 @@ use Rattle.tdcc_reader.specs.declared.surface.Form.{Form}
 use Rattle.tdcc_reader.specs.declared.surface.Form.TheVariants as form
 
 -- the form of a node
-abbrev pub form_of : Node → Form
-form_of nodes.Skip = form.Skip
-form_of (nodes.Tell ask) = form.Tell ask
-form_of (nodes.Then ask body) = form.Then ask body
-form_of (nodes.Else ask body) = form.Else ask body
-form_of (nodes.Par left right) = form.Par left right
-form_of (nodes.New cell body) = form.New cell body
-form_of (nodes.Hence body) = form.Hence body
-form_of (nodes.Next body) = form.Next body
+abbrev pub form_of_node : Node → Form
+form_of_node nodes.Skip = form.Skip
+form_of_node (nodes.Tell ask) = form.Tell ask
+form_of_node (nodes.Then ask body) = form.Then ask body
+form_of_node (nodes.Else ask body) = form.Else ask body
+form_of_node (nodes.Par left right) = form.Par left right
+form_of_node (nodes.New cell body) = form.New cell body
+form_of_node (nodes.Hence body) = form.Hence body
+form_of_node (nodes.Next body) = form.Next body
 
 -- the form is one of the core: it is not always, when, do-watching or time-on
 abbrev pub IsCoreForm : Form → Type 0

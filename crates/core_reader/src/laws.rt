@@ -1,6 +1,6 @@
 // The law of core texts, proved as the contract of a function with no body.
 ghost use Rattle.std.specs.Prelude.{◌≡◌, ◌≢◌, ℕ, List};
-ghost use Rattle.agent_core.specs.Facts.{IsProgram};
+ghost use Rattle.agent_core.specs.WellFormed.{IsWellFormed};
 ghost use Rattle.agent_core.specs.Programs.{CoreProgram};
 ghost use Rattle.tdcc_reader.specs.declared.fault.ReadFault.{ReadFault as Fault};
 ghost use Rattle.tdcc_reader.specs.declared.fault.ReadFault.TheVariants.{Memory};
@@ -9,7 +9,7 @@ ghost use Rattle.core_reader.specs.Readings.{IsCoreText, RefusesCore};
 /// A text is at most one core program, which has all that holds of programs, or it is refused for one reason, want of
 /// memory aside.
 pub fn core_law()
-    ensures program { (text : List ℕ) (p : CoreProgram) → IsCoreText text p → IsProgram p }
+    ensures program { (text : List ℕ) (p : CoreProgram) → IsCoreText text p → IsWellFormed p }
     ensures one { (text : List ℕ) (p q : CoreProgram) → IsCoreText text p → IsCoreText text q → p ≡ q }
     ensures refusal { (text : List ℕ) (f g : Fault) → f ≢ Memory → g ≢ Memory
         → RefusesCore text f → RefusesCore text g → f ≡ g }

@@ -1,6 +1,6 @@
 // The nodes of core forms.
 ghost use Rattle.std.specs.Prelude.{◌≡◌, All, IfOk, map};
-ghost use Rattle.core_reader.specs.Forms.{IsCoreForm, form_of};
+ghost use Rattle.core_reader.specs.Forms.{IsCoreForm, form_of_node};
 
 use agent_core::Node;
 use std::alloc::{AllocError, Global};
@@ -9,7 +9,7 @@ use tdcc_reader::Form;
 /// The node of a form.
 fn node_of(form: Form) -> Node
     requires { IsCoreForm form }
-    ensures { form_of result ≡ form }
+    ensures { form_of_node result ≡ form }
 {
     match form {
         Form::Skip => Node::Skip,
@@ -29,7 +29,7 @@ fn node_of(form: Form) -> Node
 /// The nodes of the forms.
 pub(crate) fn nodes_of(alloc: Global, forms: Vec<Form>) -> Result<Vec<Node>, AllocError>
     requires { All IsCoreForm forms.items }
-    ensures { IfOk result (λ nodes. map form_of nodes.items ≡ forms.items) }
+    ensures { IfOk result (λ nodes. map form_of_node nodes.items ≡ forms.items) }
 {
     let mut nodes = Vec::new(alloc);
     for form in forms {

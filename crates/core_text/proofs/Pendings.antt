@@ -8,7 +8,7 @@ use Rattle.agent_core.specs.declared.node.Node.TheVariants as nodes
 use Rattle.agent_core.specs.Agents.{Agent, Skip, Tell, Then, Else, Par, New, Hence, Next, agent_at}
 use Rattle.agent_core.specs.Listing.{size, listing, IsListing}
 use Rattle.agent_core.proofs.ListingTrees.{root_tree}
-use Rattle.core_text.specs.CoreTexts.{ask_text, decl_at, as_unit, agent_text}
+use Rattle.core_text.specs.CoreTexts.{constraint_text, decl_at, as_unit, agent_text}
 use Rattle.core_text.specs.Beginnings.{beginning, pending_of}
 use Rattle.core_text.specs.declared.agents.Pending.{Pending}
 use Rattle.core_text.specs.declared.agents.Pending.TheVariants.{Part, Bars, Brace}
@@ -116,7 +116,7 @@ in_front cells unit ps n (Then c a) rest later w = record {
   rest = listing (suc n) a ++ rest;
   later = part_text cells true a ++ later;
   nodes = refl;
-  writes = with_unit cells ps rest later w (codes "if " ++ ask_text cells c ++ codes " then ") a;
+  writes = with_unit cells ps rest later w (codes "if " ++ constraint_text cells c ++ codes " then ") a;
   pending = part cells ps rest later w true (suc n) a;
 }
 in_front cells unit ps n (Else c a) rest later w = record {
@@ -124,7 +124,7 @@ in_front cells unit ps n (Else c a) rest later w = record {
   rest = listing (suc n) a ++ rest;
   later = part_text cells true a ++ later;
   nodes = refl;
-  writes = with_unit cells ps rest later w (codes "if " ++ ask_text cells c ++ codes " else ") a;
+  writes = with_unit cells ps rest later w (codes "if " ++ constraint_text cells c ++ codes " else ") a;
   pending = part cells ps rest later w true (suc n) a;
 }
 in_front cells unit ps n (New cell a) rest later w = record {

@@ -16,12 +16,12 @@ use Rattle.token_system.specs.Tokens.{fits_kind}
 use Rattle.token_system.specs.Texts.{text_of}
 use Rattle.agent_core.specs.declared.node.CellDecl.{CellDecl}
 use Rattle.agent_core.specs.Agents.{Agent, Constraint, Skip, Tell, Then, Else, Par, New, Hence, Next, agent_at}
-use Rattle.agent_core.specs.Facts.{IsProgram, IsInScope, AreInScope, IsConstraint, Scoped}
+use Rattle.agent_core.specs.WellFormed.{IsWellFormed, IsInScope, AreInScope, IsConstraint, Scoped}
 use Rattle.agent_core.specs.Listing.{size}
 use Rattle.agent_core.specs.Programs.{CoreProgram}
 use Rattle.agent_core.proofs.Bools.{first_of_both, second_of_both}
 use Rattle.agent_core.proofs.ListingTrees.{length-listing, root_tree}
-use Rattle.core_text.specs.CoreTexts.{domain_text, cell_text, decl_text, decl_lines, name_at, decl_at, ask_text, as_unit, agent_text, core_text}
+use Rattle.core_text.specs.CoreTexts.{domain_text, cell_text, decl_text, decl_lines, name_at, decl_at, constraint_text, as_unit, agent_text, core_text}
 use Rattle.core_text.specs.GoodNames.{HasGoodNames}
 
 -- NUMBERS AND TOKENS
@@ -106,10 +106,10 @@ module _ (p : CoreProgram) (good : HasGoodNames p) where
       let more = rest_length locals xs are.1 in
       omega (arith, length-append (codes " & " ++ text_of (name_at p.cells x.0) x.1) (flat_map (λ (y : ℕ × Token). codes " & " ++ text_of (name_at p.cells y.0) y.1) xs))
 
-  ask_length : (locals : List ℕ) (c : Constraint) → IsConstraint p locals c → length (ask_text p.cells c) ≤ 752
+  ask_length : (locals : List ℕ) (c : Constraint) → IsConstraint p locals c → length (constraint_text p.cells c) ≤ 752
   ask_length locals c is = go c is.few is.tokens
     where
-      go : (xs : Constraint) → length xs ≤ 16 → AreInScope p locals xs → length (ask_text p.cells xs) ≤ 752
+      go : (xs : Constraint) → length xs ≤ 16 → AreInScope p locals xs → length (constraint_text p.cells xs) ≤ 752
       go [] few are = omega arith
       go (x ∷ xs) few are =
           let one = pair_length locals x are.0 in
@@ -135,12 +135,12 @@ module _ (p : CoreProgram) (good : HasGoodNames p) where
       let few = ask_length locals c h.0 in
       let body = agent_length a locals h.1 in
       let unit = unit_length a (agent_text p.cells a) in
-      omega (arith, length-append (ask_text p.cells c ++ codes " then ") (as_unit a (agent_text p.cells a)), length-append (ask_text p.cells c) (codes " then "))
+      omega (arith, length-append (constraint_text p.cells c ++ codes " then ") (as_unit a (agent_text p.cells a)), length-append (constraint_text p.cells c) (codes " then "))
   agent_length (Else c a) locals h =
       let few = ask_length locals c h.0 in
       let body = agent_length a locals h.1 in
       let unit = unit_length a (agent_text p.cells a) in
-      omega (arith, length-append (ask_text p.cells c ++ codes " else ") (as_unit a (agent_text p.cells a)), length-append (ask_text p.cells c) (codes " else "))
+      omega (arith, length-append (constraint_text p.cells c ++ codes " else ") (as_unit a (agent_text p.cells a)), length-append (constraint_text p.cells c) (codes " else "))
   agent_length (Par l r) locals h =
       let left = agent_length l locals h.0 in
       let right = agent_length r locals h.1 in
@@ -162,7 +162,7 @@ front-get (x ∷ xs) zero i d e = absurd (cc)
 front-get (x ∷ xs) (suc n) zero d e = e
 front-get (x ∷ xs) (suc n) (suc i) d e = front-get xs n i d e
 
-pub text_length : (p : CoreProgram) → IsProgram p → HasGoodNames p → length (core_text p) ≤ 4194304
+pub text_length : (p : CoreProgram) → IsWellFormed p → HasGoodNames p → length (core_text p) ≤ 4194304
 text_length p is good =
     let root = root_tree p.nodes is.tree in
     let nodes = ap length is.tree.1 ∙ length-listing 0 is.tree.0 ∙ ap size (sym root) in

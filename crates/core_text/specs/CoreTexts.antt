@@ -40,8 +40,8 @@ decl_at cells n = option_map_or decl_text (slice_get cells n) []
 -- AGENTS
 
 -- the tokens in their order, with ` & ` between them
-abbrev pub ask_text : List CellDecl → Constraint → List ℕ
-ask_text cells ask = join_by (λ x. text_of (name_at cells x.0) x.1) (codes " & ") ask
+abbrev pub constraint_text : List CellDecl → Constraint → List ℕ
+constraint_text cells ask = join_by (λ x. text_of (name_at cells x.0) x.1) (codes " & ") ask
 
 -- the text of an agent where it is to be one unit: a par stands in braces
 abbrev pub as_unit : Agent → List ℕ → List ℕ
@@ -51,9 +51,9 @@ as_unit _ text = text
 -- the left part of a par and every body is a unit
 abbrev pub agent_text : List CellDecl → Agent → List ℕ
 agent_text cells Skip = codes "skip"
-agent_text cells (Tell c) = ask_text cells c
-agent_text cells (Then c a) = codes "if " ++ ask_text cells c ++ codes " then " ++ as_unit a (agent_text cells a)
-agent_text cells (Else c a) = codes "if " ++ ask_text cells c ++ codes " else " ++ as_unit a (agent_text cells a)
+agent_text cells (Tell c) = constraint_text cells c
+agent_text cells (Then c a) = codes "if " ++ constraint_text cells c ++ codes " then " ++ as_unit a (agent_text cells a)
+agent_text cells (Else c a) = codes "if " ++ constraint_text cells c ++ codes " else " ++ as_unit a (agent_text cells a)
 agent_text cells (Par l r) = as_unit l (agent_text cells l) ++ codes " || " ++ agent_text cells r
 agent_text cells (New cell a) = codes "new " ++ decl_at cells cell ++ codes " in " ++ as_unit a (agent_text cells a)
 agent_text cells (Hence a) = codes "hence " ++ as_unit a (agent_text cells a)

@@ -7,7 +7,7 @@ use Rattle.program_lexemes.specs.Forms.{kind_of}
 use Rattle.agent_core.specs.declared.node.CellDecl.{CellDecl}
 use Rattle.agent_core.specs.Agents.{Agent, Skip, Tell, Then, Else, Par, New, Hence, Next, agent_at}
 use Rattle.agent_core.specs.Programs.{CoreProgram}
-use Rattle.agent_core.specs.Facts.{IsAmong}
+use Rattle.agent_core.specs.WellFormed.{IsAmong}
 use Rattle.core_text.specs.CoreTexts.{name_at}
 
 -- a name that a text of this form can have: a word that is no keyword, or in a core text a dollar and one to nine digits; of 32

@@ -2,7 +2,7 @@
 ghost use Rattle.std.specs.Prelude.{◌≡◌, ◌++◌, OnOk, codes, reverse};
 ghost use Rattle.agent_core.specs.Agents.{agent_at};
 ghost use Rattle.agent_core.specs.Listing.{IsListing};
-ghost use Rattle.core_text.specs.CoreTexts.{ask_text, decl_at, agent_text};
+ghost use Rattle.core_text.specs.CoreTexts.{constraint_text, decl_at, agent_text};
 ghost use Rattle.core_text.specs.Beginnings.{beginning, pending_of};
 
 use crate::cells::write_decl_at;
@@ -34,7 +34,7 @@ fn write_if(
     word: &[u8],
     into: &mut Vec<u8>,
 ) -> Result<(), Memory>
-    ensures { OnOk result (into.new.items ≡ into.old.items ++ (codes "if " ++ ask_text cells.now ask.now ++ word.now)) }
+    ensures { OnOk result (into.new.items ≡ into.old.items ++ (codes "if " ++ constraint_text cells.now ask.now ++ word.now)) }
 {
     into.extend_from_slice(b"if ")?;
     write_ask(cells, ask, into)?;

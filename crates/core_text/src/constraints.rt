@@ -1,6 +1,6 @@
 // The text of a constraint.
 ghost use Rattle.std.specs.Prelude.{◌≡◌, ◌++◌, OnOk};
-ghost use Rattle.core_text.specs.CoreTexts.{name_at, ask_text};
+ghost use Rattle.core_text.specs.CoreTexts.{name_at, constraint_text};
 ghost use Rattle.token_system.specs.Texts.{text_of};
 
 use crate::cells::name_at;
@@ -25,7 +25,7 @@ pub(crate) fn write_ask(
     ask: &Constraint,
     into: &mut Vec<u8>,
 ) -> Result<(), Memory>
-    ensures { OnOk result (into.new.items ≡ into.old.items ++ ask_text cells.now ask.now) }
+    ensures { OnOk result (into.new.items ≡ into.old.items ++ constraint_text cells.now ask.now) }
 {
     if let Some(((cell, token), more)) = ask.list().split_first() {
         write_token(cells, *cell, *token, into)?;

@@ -1,6 +1,6 @@
 // The core text of a program.
 ghost use Rattle.std.specs.Prelude.{◌≡◌, ◌++◌, OnOk, OnErr, IfOk};
-ghost use Rattle.agent_core.specs.Facts.{IsProgram};
+ghost use Rattle.agent_core.specs.WellFormed.{IsWellFormed};
 ghost use Rattle.core_text.specs.CoreTexts.{core_text};
 
 use crate::agents::write_agent;

@@ -20,8 +20,8 @@ use Rattle.agent_core.specs.declared.node.CellDecl.{CellDecl}
 use Rattle.agent_core.specs.Agents as core
 use Rattle.agent_core.specs.Agents.{Constraint, agent_at}
 use Rattle.agent_core.specs.Programs.{CoreProgram}
-use Rattle.agent_core.specs.Facts.{IsProgram, IsInScope, AreInScope}
-use Rattle.core_text.specs.CoreTexts.{decl_text, decl_lines, name_at, decl_at, ask_text, as_unit, agent_text, core_text}
+use Rattle.agent_core.specs.WellFormed.{IsWellFormed, IsInScope, AreInScope}
+use Rattle.core_text.specs.CoreTexts.{decl_text, decl_lines, name_at, decl_at, constraint_text, as_unit, agent_text, core_text}
 use Rattle.core_text.specs.GoodNames.{IsCoreName, HasGoodNames}
 use Rattle.core_reader.proofs.LocalCells.{news}
 use Rattle.core_text_laws.proofs.Sitting.{Sits, sits_then, sits_else, sits_hence, sits_next, sits_left, sits_right, sits_cell, sits_new, root_sits}
@@ -103,7 +103,7 @@ module _ (p : CoreProgram) (good : HasGoodNames p) where
       → Written (text_of (name_at p.cells x.0) x.1 ++ (sp ∷ text)) (token (token_phrase (name_at p.cells x.0) x.1) terms)
   pair_written locals x sp is gap w = token_written (name_at p.cells x.0) is.decl.cell.kind x.1 sp (subst IsCoreName (sym (named p x.0 is.decl is.found)) (good.names x.0 is.decl is.found)) is.fits gap w
 
-  ask_written : (locals : List ℕ) (c : Constraint) (sp : ℕ) {text : List ℕ} {terms : List Term} → 1 ≤ length c → AreInScope p locals c → IsGap sp → Written text terms → Written (ask_text p.cells c ++ (sp ∷ text)) (constraint (ask_phrase p.cells c) terms)
+  ask_written : (locals : List ℕ) (c : Constraint) (sp : ℕ) {text : List ℕ} {terms : List Term} → 1 ≤ length c → AreInScope p locals c → IsGap sp → Written text terms → Written (constraint_text p.cells c ++ (sp ∷ text)) (constraint (ask_phrase p.cells c) terms)
   ask_written locals [] sp some are gap w = absurd (omega arith)
   ask_written locals (x ∷ []) sp {text} some are gap w =
       same_written (ap (λ (t : List ℕ). t ++ (sp ∷ text)) (append-nil (text_of (name_at p.cells x.0) x.1))) (pair_written locals x sp are.0 gap w)
@@ -141,13 +141,13 @@ module _ (p : CoreProgram) (good : HasGoodNames p) where
   agent_says core.Skip locals n s = λ sp text terms gap w. more_written (codes "skip") kind.Keyword (sp ∷ []) Skip refl (gap_white sp gap) refl gap.no_word refl w
   agent_says (core.Tell c) locals n s = λ sp text terms gap w. ask_written locals c sp s.scoped.some s.scoped.tokens gap w
   agent_says (core.Then c a) locals n s = λ sp text terms gap w.
-      same_written (four (codes "if ") (ask_text p.cells c) (codes " then ") (as_unit a (agent_text p.cells a)) (sp ∷ text))
+      same_written (four (codes "if ") (constraint_text p.cells c) (codes " then ") (as_unit a (agent_text p.cells a)) (sp ∷ text))
       (more_written (codes "if") kind.Keyword (32 ∷ []) If refl refl refl refl refl
       (ask_written locals c 32 s.scoped.0.some s.scoped.0.tokens blank_gap
       (more_written (codes "then") kind.Keyword (32 ∷ []) Then refl refl refl refl refl
       (unit_says a (agent_says a locals n (sits_then p locals n c a s)) sp text terms gap w))))
   agent_says (core.Else c a) locals n s = λ sp text terms gap w.
-      same_written (four (codes "if ") (ask_text p.cells c) (codes " else ") (as_unit a (agent_text p.cells a)) (sp ∷ text))
+      same_written (four (codes "if ") (constraint_text p.cells c) (codes " else ") (as_unit a (agent_text p.cells a)) (sp ∷ text))
       (more_written (codes "if") kind.Keyword (32 ∷ []) If refl refl refl refl refl
       (ask_written locals c 32 s.scoped.0.some s.scoped.0.tokens blank_gap
       (more_written (codes "else") kind.Keyword (32 ∷ []) Else refl refl refl refl refl
@@ -172,7 +172,7 @@ module _ (p : CoreProgram) (good : HasGoodNames p) where
       (unit_says a (agent_says a (cell ∷ locals) (n + 1) (sits_new p locals n cell a s)) sp text terms gap w)))
 
   -- The core text of the program says its phrase.
-  pub text_says : IsProgram p → Written (core_text p) (program (program_phrase p) [])
+  pub text_says : IsWellFormed p → Written (core_text p) (program (program_phrase p) [])
   text_says is =
       same_written (append_assoc (decl_lines (take p.declared p.cells)) (agent_text p.cells (agent_at p.nodes 0)) (codes "\n"))
       (decls_written (take p.declared p.cells) (g.Runs (agent_phrase p.cells (agent_at p.nodes 0))) (agent_text p.cells (agent_at p.nodes 0) ++ codes "\n") (λ i d e. good.names i d (taken p.cells p.declared i d e))

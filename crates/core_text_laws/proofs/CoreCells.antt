@@ -13,7 +13,7 @@ use Rattle.program_grammar.specs.Phrases as g
 use Rattle.agent_core.specs.declared.node.CellDecl.{CellDecl}
 use Rattle.agent_core.specs.Agents.{Agent, Skip, Tell, Then, Else, Par, New, Hence, Next, agent_at}
 use Rattle.agent_core.specs.Programs.{CoreProgram}
-use Rattle.agent_core.specs.Facts.{IsProgram, count_up}
+use Rattle.agent_core.specs.WellFormed.{IsWellFormed, count_up}
 use Rattle.tdcc_reader.specs.Surfaces.{Declared, declared, declared_signal, declared_number, cell_view, unit_cells, agent_cells, declared_cells, program_cells}
 use Rattle.core_text.specs.GoodNames.{HasGoodNames}
 use Rattle.core_reader.proofs.LocalCells.{news}
@@ -115,12 +115,12 @@ numbered cells (suc k) n e =
     ∙ ap (map cell_view) (ap (λ (x : CellDecl). x ∷ drop (suc n) cells) here ∙ sym (drop-cons cells n d (omega arith)))
 
 -- The cells of a program's phrase.
-pub program_declared : (p : CoreProgram) → IsProgram p → p.declared ≡ length (declared_cells (program_phrase p))
+pub program_declared : (p : CoreProgram) → IsWellFormed p → p.declared ≡ length (declared_cells (program_phrase p))
 program_declared p is =
     let within = is.limits.within in
     sym (ap length (decls_declared (take p.declared p.cells) (agent_phrase p.cells (agent_at p.nodes 0))) ∙ length-map (take p.declared p.cells) cell_view ∙ length-take-le p.declared p.cells within)
 
-pub program_seen : (p : CoreProgram) → IsProgram p → HasGoodNames p → map cell_view p.cells ≡ program_cells (program_phrase p)
+pub program_seen : (p : CoreProgram) → IsWellFormed p → HasGoodNames p → map cell_view p.cells ≡ program_cells (program_phrase p)
 program_seen p is good =
     let within = is.limits.within in
     sym (

@@ -9,7 +9,7 @@ use Rattle.token_system.specs.declared.cell.Token.TheVariants as tokens
 use Rattle.program_grammar.specs.Phrases as g
 use Rattle.agent_core.specs.declared.node.CellDecl.{CellDecl}
 use Rattle.agent_core.specs.Agents.{Agent, Constraint, Skip, Tell, Then, Else, Par, New, Hence, Next, agent_at}
-use Rattle.agent_core.specs.Facts.{IsProgram, IsConstraint, Scoped}
+use Rattle.agent_core.specs.WellFormed.{IsWellFormed, IsConstraint, Scoped}
 use Rattle.agent_core.specs.Listing.{size}
 use Rattle.agent_core.specs.Programs.{CoreProgram}
 use Rattle.agent_core.proofs.ListingTrees.{length-listing, root_tree}
@@ -123,7 +123,7 @@ decls_within [] q h at = h at
 decls_within (d ∷ ds) q h at = decl_within d.cell.kind d (decls_phrase ds q) (decls_within ds q h) at
 
 -- The phrase of a program goes past no limit.
-pub program_within : (p : CoreProgram) → IsProgram p → program_limit Core (program_phrase p) ≡ None
+pub program_within : (p : CoreProgram) → IsWellFormed p → program_limit Core (program_phrase p) ≡ None
 program_within p is =
     let root = root_tree p.nodes is.tree in
     let nodes = ap length is.tree.1 ∙ length-listing 0 is.tree.0 ∙ ap size (sym root) in

@@ -15,7 +15,7 @@ use Rattle.program_grammar.specs.Phrases as g
 use Rattle.agent_core.specs.declared.node.CellDecl.{CellDecl}
 use Rattle.agent_core.specs.Agents.{Agent, Constraint, Skip, Tell, Then, Else, Par, New, Hence, Next, agent_at}
 use Rattle.agent_core.specs.Programs.{CoreProgram}
-use Rattle.agent_core.specs.Facts.{IsProgram, IsInScope, AreInScope}
+use Rattle.agent_core.specs.WellFormed.{IsWellFormed, IsInScope, AreInScope}
 use Rattle.tdcc_reader.specs.Limits.{first}
 use Rattle.tdcc_reader.specs.Widths.{token_width, constraint_width, unit_width}
 use Rattle.tdcc_reader.specs.Scope.{Known, known, kind_in_scope, unknown_fault, signal_fault, number_fault, double_fault, domain_fault, declared_fault, token_fault, constraint_fault, unit_fault, agent_fault, fault_from, program_fault}
@@ -167,7 +167,7 @@ module _ (p : CoreProgram) where
       neither (first (declared_fault x scope (at + 1)) (domain_fault l h (at + 1 + 2))) (fault_from q (known x Number ∷ scope) (at + 1 + 6))
       (neither (declared_fault x scope (at + 1)) (domain_fault l h (at + 1 + 2)) (decl (at + 1)) (domain_clean l h (at + 1 + 2) law)) (clean (at + 1 + 6))
 
-  module _ (good : HasGoodNames p) (is : IsProgram p) where
+  module _ (good : HasGoodNames p) (is : IsWellFormed p) where
     -- the declared cells below n are known
     abbrev Below : ℕ → List Known → Type 0
     Below n scope = KnownFits p.cells (λ c. c < n) scope

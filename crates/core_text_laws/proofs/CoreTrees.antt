@@ -13,7 +13,7 @@ use Rattle.program_grammar.specs.Phrases as g
 use Rattle.agent_core.specs.declared.node.CellDecl.{CellDecl}
 use Rattle.agent_core.specs.Agents.{Agent, Constraint, Skip, Tell, Then, Else, Par, New, Hence, Next, agent_at}
 use Rattle.agent_core.specs.Programs.{CoreProgram}
-use Rattle.agent_core.specs.Facts.{IsProgram, AreInScope, IsConstraint}
+use Rattle.agent_core.specs.WellFormed.{IsWellFormed, AreInScope, IsConstraint}
 use Rattle.tdcc_reader.specs.Trees as tree
 use Rattle.tdcc_reader.specs.Surfaces.{Placed, placed, cell_in_scope, constraint_of, token_tokens, unit_tree, agent_tree, unit_cells, tree_from, program_tree}
 use Rattle.core_reader.specs.Trees.{tree_of}
@@ -154,7 +154,7 @@ module _ (p : CoreProgram) (good : HasGoodNames p) where
       (omega arith) (one_below n d scope first (omega arith) below) c (omega arith)
 
   -- The tree of a program's phrase.
-  pub program_kept : IsProgram p → tree_of (agent_at p.nodes 0) ≡ program_tree (program_phrase p)
+  pub program_kept : IsWellFormed p → tree_of (agent_at p.nodes 0) ≡ program_tree (program_phrase p)
   program_kept is =
       let ds : List CellDecl = take p.declared p.cells in
       let within = is.limits.within in

@@ -5,7 +5,7 @@ use Rattle.program_lexemes.specs.declared.bytes.TextForm.TheVariants as form
 use Rattle.program_grammar.specs.Spelling.{program}
 use Rattle.agent_core.specs.Agents.{agent_at}
 use Rattle.agent_core.specs.Programs.{CoreProgram}
-use Rattle.agent_core.specs.Facts.{IsProgram}
+use Rattle.agent_core.specs.WellFormed.{IsWellFormed}
 use Rattle.agent_core.proofs.ListingTrees.{length-listing}
 use Rattle.tdcc_reader.specs.declared.dialect.Dialect.TheVariants as dialect
 use Rattle.tdcc_reader.specs.Trees.{form_count}
@@ -27,7 +27,7 @@ use Rattle.core_text_laws.proofs.Written.{written_lexed}
 use Rattle.core_text_laws.proofs.CoreAgents.{text_says}
 use Rattle.core_text_laws.proofs.Spellings.{phrase_is_core, listed}
 
-module _ (p : CoreProgram) (is : IsProgram p) (good : HasGoodNames p) where
+module _ (p : CoreProgram) (is : IsWellFormed p) (good : HasGoodNames p) where
   -- nothing refuses the core text, which is the program's phrase
   accepted : Accepts dialect.Core (core_text p) (program_phrase p)
   accepted =

@@ -4,7 +4,7 @@ use Rattle.std.specs.Prelude.{filter_map}
 use Rattle.agent_core.specs.Agents.{Agent, Constraint, Then, Else, Par, New, Hence, Next, agent_at}
 use Rattle.agent_core.specs.Programs.{CoreProgram}
 use Rattle.agent_core.specs.Listing.{listing}
-use Rattle.agent_core.specs.Facts.{Scoped, IsProgram, cell_of, count_up}
+use Rattle.agent_core.specs.WellFormed.{Scoped, IsWellFormed, cell_of, count_up}
 use Rattle.agent_core.proofs.ListingTrees.{root_tree}
 use Rattle.core_reader.proofs.LocalCells.{news, news_listed}
 use Rattle.core_text.specs.GoodNames.{AreFresh, HasGoodNames}
@@ -71,7 +71,7 @@ module _ (p : CoreProgram) (locals : List ℕ) (n : ℕ) where
       record { scoped = s.scoped; fresh = s.fresh.1; counted = subst (λ (k : ℕ). Counted k (news a)) f tail; few = omega arith }
 
 -- the root of a program
-pub root_sits : (p : CoreProgram) → IsProgram p → HasGoodNames p → Sits p [] p.declared (agent_at p.nodes 0)
+pub root_sits : (p : CoreProgram) → IsWellFormed p → HasGoodNames p → Sits p [] p.declared (agent_at p.nodes 0)
 root_sits p is good =
     let listed : p.nodes ≡ listing 0 (agent_at p.nodes 0) = is.tree.1 ∙ ap (listing 0) (sym (root_tree p.nodes is.tree)) in
     let all : news (agent_at p.nodes 0) ≡ count_up p.declared (length p.cells - p.declared) = sym (news_listed 0 (agent_at p.nodes 0)) ∙ ap (filter_map cell_of) (sym listed) ∙ is.locals in
@@ -85,7 +85,7 @@ root_sits p is good =
     }
 
 -- the cells of its new nodes are all local cells
-pub root_news : (p : CoreProgram) → IsProgram p → news (agent_at p.nodes 0) ≡ count_up p.declared (length p.cells - p.declared)
+pub root_news : (p : CoreProgram) → IsWellFormed p → news (agent_at p.nodes 0) ≡ count_up p.declared (length p.cells - p.declared)
 root_news p is =
     let listed : p.nodes ≡ listing 0 (agent_at p.nodes 0) = is.tree.1 ∙ ap (listing 0) (sym (root_tree p.nodes is.tree)) in
     sym (news_listed 0 (agent_at p.nodes 0)) ∙ ap (filter_map cell_of) (sym listed) ∙ is.locals

@@ -14,7 +14,7 @@ use Rattle.agent_core.specs.declared.node.Node.{Node}
 use Rattle.agent_core.specs.Agents as core
 use Rattle.agent_core.specs.Agents.{agent_at}
 use Rattle.agent_core.specs.Programs.{CoreProgram}
-use Rattle.agent_core.specs.Facts.{IsProgram}
+use Rattle.agent_core.specs.WellFormed.{IsWellFormed}
 use Rattle.agent_core.specs.Listing.{listing}
 use Rattle.agent_core.proofs.ListingTrees.{root_tree}
 use Rattle.tdcc_reader.specs.Trees as tree
@@ -74,7 +74,7 @@ pub phrase_is_core : (p : CoreProgram) → is_core (program_phrase p) ≡ true
 phrase_is_core p = decls_are_core (take p.declared p.cells) (g.Runs (agent_phrase p.cells (agent_at p.nodes 0))) ∙ agent_is_core p.cells (agent_at p.nodes 0)
 
 -- The core text of a program with good names is that program.
-pub spelled : (p : CoreProgram) → IsProgram p → HasGoodNames p → IsSpelled (core_text p) p
+pub spelled : (p : CoreProgram) → IsWellFormed p → HasGoodNames p → IsSpelled (core_text p) p
 spelled p is good =
     let lexed = written_lexed form.Core (core_text p) (program (program_phrase p) []) (text_says p good is) in
     record {
@@ -95,7 +95,7 @@ spelled p is good =
 -- ONE PROGRAM
 
 -- the nodes of a program are those of its agent
-pub listed : (p : CoreProgram) → IsProgram p → p.nodes ≡ listing 0 (agent_at p.nodes 0)
+pub listed : (p : CoreProgram) → IsWellFormed p → p.nodes ≡ listing 0 (agent_at p.nodes 0)
 listed p is = is.tree.1 ∙ ap (listing 0) (sym (root_tree p.nodes is.tree))
 
 -- programs of which the same trees are read have the same nodes
@@ -103,7 +103,7 @@ same_tree : (a b : core.Agent) → tree_of a ≡ tree_of b → listing 0 a ≡ l
 same_tree a b e = same_nodes (listing 0 a) (listing 0 b) (forms_listed 0 a ∙ ap (tree.form_listing 0) e ∙ sym (forms_listed 0 b))
 
 -- A text is at most one program.
-pub one_spelled : (text : List ℕ) (p q : CoreProgram) → IsProgram p → IsProgram q → IsSpelled text p → IsSpelled text q → p ≡ q
+pub one_spelled : (text : List ℕ) (p q : CoreProgram) → IsWellFormed p → IsWellFormed q → IsSpelled text p → IsSpelled text q → p ≡ q
 one_spelled text p q ip iq sp sq =
     let lexemes : sp.lexemes ≡ sq.lexemes = unique form.Core text sp.lexemes sq.lexemes 0 sp.lexed sq.lexed in
     let phrase : sp.phrase ≡ sq.phrase = one_program sp.phrase sq.phrase (sym sp.spells.spelled ∙ ap (terms_of text) lexemes ∙ sq.spells.spelled) in
@@ -115,5 +115,5 @@ one_spelled text p q ip iq sp sq =
     ∙ ap (λ (x : List Node). record { cells = q.cells; declared = q.declared; nodes = x }) nodes
 
 -- So programs with one core text are one.
-pub one_printed : (p q : CoreProgram) → IsProgram p → IsProgram q → HasGoodNames p → HasGoodNames q → core_text p ≡ core_text q → p ≡ q
+pub one_printed : (p q : CoreProgram) → IsWellFormed p → IsWellFormed q → HasGoodNames p → HasGoodNames q → core_text p ≡ core_text q → p ≡ q
 one_printed p q ip iq gp gq e = one_spelled (core_text q) p q ip iq (subst (λ (t : List ℕ). IsSpelled t p) e (spelled p ip gp)) (spelled q iq gq)

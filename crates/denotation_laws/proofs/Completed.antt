@@ -9,14 +9,14 @@ use Rattle.token_system.proofs.Alike.{true_false}
 use Rattle.agent_core.specs.declared.node.Closure.{Closure}
 use Rattle.agent_core.specs.Agents.{Constraint, agent_at}
 use Rattle.agent_core.specs.Programs.{CoreProgram}
-use Rattle.agent_core.specs.Facts.{IsProgram}
+use Rattle.agent_core.specs.WellFormed.{IsWellFormed}
 use Rattle.agent_core.specs.Closures.{started}
 use Rattle.agent_core.specs.Leaves.{Leaf, leaves, tells, runs}
 use Rattle.agent_core.specs.Outputs.{IsOutput}
 use Rattle.agent_core.specs.Rests.{entails}
 use Rattle.agent_core.specs.RootOutputs.{roots_rest, IsOutputOf}
-use Rattle.agent_core.specs.Observed.{obs}
-use Rattle.agent_core.specs.Scope.{AskFits}
+use Rattle.agent_core.specs.RestsAfter.{obs}
+use Rattle.agent_core.specs.Scope.{ConstraintFits}
 use Rattle.agent_core.specs.Stores.{IsStore, Below}
 use Rattle.agent_core.specs.Strata.{Each, In, Stratifies}
 use Rattle.agent_core.proofs.Bools.{first_of_both, second_of_both}
@@ -127,7 +127,7 @@ pub calm-after : (p : CoreProgram) (table : List ℕ) (z : List Valuation) (k : 
 calm-after p table z k u w true h e = absurd (true_false e)
 calm-after p table z k u w false h e = subst (λ (x : Valuation). Each (λ l. is_due p table k x l ≡ false) (leaves_now p z)) (sym h.1) h.0
 
-module _ (p : CoreProgram) (table : List ℕ) (is : IsProgram p) (strat : Stratifies p table) (z : List Valuation) where
+module _ (p : CoreProgram) (table : List ℕ) (is : IsWellFormed p) (strat : Stratifies p table) (z : List Valuation) where
   abbrev rs : List Closure
   rs = started p z (agent_at p.nodes 0) 0 [] 0
 
@@ -153,7 +153,7 @@ module _ (p : CoreProgram) (table : List ℕ) (is : IsProgram p) (strat : Strati
   abbrev high : ℕ
   high = above_all table
 
-  cells_low : (b : List ℕ) (c : Constraint) → AskFits p b c → Each (λ x. slice_index table x.0 < high) c
+  cells_low : (b : List ℕ) (c : Constraint) → ConstraintFits p b c → Each (λ x. slice_index table x.0 < high) c
   cells_low b [] f = tt
   cells_low b (x ∷ c) f = (all_below p table x.0 (slice_get_within p.cells x.0 f.0.decl f.0.found), cells_low b c f.1)
 

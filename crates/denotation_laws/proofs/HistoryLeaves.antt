@@ -13,8 +13,8 @@ use Rattle.agent_core.specs.Programs.{CoreProgram}
 use Rattle.agent_core.specs.Agents.{Agent, Constraint, agent_of, agent_at}
 use Rattle.agent_core.specs.Listing.{size}
 use Rattle.agent_core.specs.Names.{IsClosure}
-use Rattle.agent_core.specs.Facts.{IsProgram}
-use Rattle.agent_core.specs.Observed.{suffixes}
+use Rattle.agent_core.specs.WellFormed.{IsWellFormed}
+use Rattle.agent_core.specs.RestsAfter.{suffixes}
 use Rattle.agent_core.specs.Closures.{started}
 use Rattle.agent_core.specs.Rests.{entails}
 use Rattle.agent_core.specs.Leaves.{Leaf, leaves_of, leaves}
@@ -45,7 +45,7 @@ just_started r p table k t n b z u w e h =
     (λ x more. subst (λ (ls : List Leaf). TellsOne p table k ls u x w) (since-now p t n b z e) (more [] refl)) h
 
 -- after the closed stores w ∷ z
-module _ (p : CoreProgram) (is : IsProgram p) (n : ℕ) (b : List ℕ) (closure : IsClosure p n b) (t : ℕ) (closed : List Valuation) (w : Valuation) (z : List Valuation) (split : closed ≡ w ∷ z) where
+module _ (p : CoreProgram) (is : IsWellFormed p) (n : ℕ) (b : List ℕ) (closure : IsClosure p n b) (t : ℕ) (closed : List Valuation) (w : Valuation) (z : List Valuation) (split : closed ≡ w ∷ z) where
   abbrev start : ℕ
   start = t - length (w ∷ z)
 

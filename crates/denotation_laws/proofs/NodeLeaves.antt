@@ -10,15 +10,15 @@ use Rattle.agent_core.specs.Programs.{CoreProgram}
 use Rattle.agent_core.specs.Agents.{Agent, Constraint, Skip, Hence, Next, agent_of, agent_at}
 use Rattle.agent_core.specs.Listing.{size}
 use Rattle.agent_core.specs.Names.{IsClosure}
-use Rattle.agent_core.specs.Facts.{IsProgram}
+use Rattle.agent_core.specs.WellFormed.{IsWellFormed}
 use Rattle.agent_core.specs.Stores.{IsStore}
 use Rattle.agent_core.specs.Rests.{entails}
-use Rattle.agent_core.specs.Leaves.{Guard, Asks, Denies, Leaf, leaf, leaves_of, allows}
+use Rattle.agent_core.specs.Leaves.{Guard, Positive, Negative, Leaf, leaf, leaves_of, allows}
 use Rattle.agent_core.proofs.RestTests.{facts}
 use Rattle.denotation_laws.specs.Dues.{Tells, TellsOne, TellsBelow}
 use Rattle.denotation_laws.proofs.Steps.{one-left, one-right, one-store, one-tell, blocked, quiet, allowed_more, refused_more}
 
-module _ (p : CoreProgram) (is : IsProgram p) (n : ℕ) (b : List ℕ) (closure : IsClosure p n b) (table : List ℕ) (k t : ℕ) (u : Valuation) where
+module _ (p : CoreProgram) (is : IsWellFormed p) (n : ℕ) (b : List ℕ) (closure : IsClosure p n b) (table : List ℕ) (k t : ℕ) (u : Valuation) where
   abbrev Below : ℕ → List ℕ → Bool → Valuation → Type 0
   Below m births told w = TellsBelow p table k t m births u told w
 
@@ -76,21 +76,21 @@ module _ (p : CoreProgram) (is : IsProgram p) (n : ℕ) (b : List ℕ) (closure 
 
   pub then-refused : (c : Constraint) (m : ℕ) → slice_get p.nodes n ≡ Some (nodes.Then c m) → entails p b u c ≡ false → Below n b false u
   then-refused c m found e path run =
-      by-node (nodes.Then c m) found path false u (blocked p table k u t (agent_at p.nodes m) (suc n) b (path ++ Asks b c ∷ []) (refused_more p table k u path (Asks b c) e), refl)
+      by-node (nodes.Then c m) found path false u (blocked p table k u t (agent_at p.nodes m) (suc n) b (path ++ Positive b c ∷ []) (refused_more p table k u path (Positive b c) e), refl)
 
   pub then-now : {E : Type 0} (r : Result Bool E) (c : Constraint) (m : ℕ) → slice_get p.nodes n ≡ Some (nodes.Then c m) → entails p b u c ≡ true → (w : Valuation) → IfOk r (λ x. Below m b x w) → IfOk r (λ x. Below n b x w)
   then-now r c m found e w h =
       IfOk-weaker r (λ x. Below m b x w) (λ x. Below n b x w)
-      (λ x more path run. by-node (nodes.Then c m) found path x w (moved m b (path ++ Asks b c ∷ []) x w (facts p is n b closure (nodes.Then c m) found).follow (more (path ++ Asks b c ∷ []) (allowed_more p table k u path (Asks b c) run e)))) h
+      (λ x more path run. by-node (nodes.Then c m) found path x w (moved m b (path ++ Positive b c ∷ []) x w (facts p is n b closure (nodes.Then c m) found).follow (more (path ++ Positive b c ∷ []) (allowed_more p table k u path (Positive b c) run e)))) h
 
   pub else-refused : (c : Constraint) (m : ℕ) → slice_get p.nodes n ≡ Some (nodes.Else c m) → entails p b u c ≡ true → Below n b false u
   else-refused c m found e path run =
-      by-node (nodes.Else c m) found path false u (blocked p table k u t (agent_at p.nodes m) (suc n) b (path ++ Denies b c ∷ []) (refused_more p table k u path (Denies b c) (ap not e)), refl)
+      by-node (nodes.Else c m) found path false u (blocked p table k u t (agent_at p.nodes m) (suc n) b (path ++ Negative b c ∷ []) (refused_more p table k u path (Negative b c) (ap not e)), refl)
 
   pub else-now : {E : Type 0} (r : Result Bool E) (c : Constraint) (m : ℕ) → slice_get p.nodes n ≡ Some (nodes.Else c m) → entails p b u c ≡ false → (w : Valuation) → IfOk r (λ x. Below m b x w) → IfOk r (λ x. Below n b x w)
   else-now r c m found e w h =
       IfOk-weaker r (λ x. Below m b x w) (λ x. Below n b x w)
-      (λ x more path run. by-node (nodes.Else c m) found path x w (moved m b (path ++ Denies b c ∷ []) x w (facts p is n b closure (nodes.Else c m) found).follow (more (path ++ Denies b c ∷ []) (allowed_more p table k u path (Denies b c) run (ap not e))))) h
+      (λ x more path run. by-node (nodes.Else c m) found path x w (moved m b (path ++ Negative b c ∷ []) x w (facts p is n b closure (nodes.Else c m) found).follow (more (path ++ Negative b c ∷ []) (allowed_more p table k u path (Negative b c) run (ap not e))))) h
 
   pub new-now : {E : Type 0} (r : Result Bool E) (cell m : ℕ) → slice_get p.nodes n ≡ Some (nodes.New cell m) → (births : List ℕ) → births ≡ b ++ t ∷ [] → (w : Valuation) → IfOk r (λ x. Below m births x w) → IfOk r (λ x. Below n b x w)
   new-now r cell m found births e w h =

@@ -6,7 +6,7 @@ use Rattle.std.proofs.lemmas.List.Folds.{list_all-append}
 use Rattle.token_system.specs.Stores.{Valuation}
 use Rattle.agent_core.specs.Programs.{CoreProgram}
 use Rattle.agent_core.specs.Agents.{Agent, Constraint, Skip, Tell, Then, Else, Par, New, Hence, Next}
-use Rattle.agent_core.specs.Leaves.{Guard, Asks, Denies, Leaf, leaf, leaves_of, tells, allows, runs}
+use Rattle.agent_core.specs.Leaves.{Guard, Positive, Negative, Leaf, leaf, leaves_of, tells, allows, runs}
 use Rattle.agent_core.specs.Strata.{Each}
 use Rattle.agent_laws.proofs.Eachs.{Each-append}
 use Rattle.strata.proofs.Members.{in_left, in_right}
@@ -90,8 +90,8 @@ module _ (p : CoreProgram) (table : List ℕ) (k : ℕ) where
   blocked u t (Next a) n b path e = (neither _ _ e, tt)
   blocked u t (Par l r) n b path e =
       Each-append (λ x. is_due p table k u x ≡ false) (leaves_of t l _ b path) (leaves_of t r _ b path) (blocked u t l _ b path e) (blocked u t r _ b path e)
-  blocked u t (Then c a) n b path e = blocked u t a _ b (path ++ Asks b c ∷ []) (blocked_more u path (Asks b c) e)
-  blocked u t (Else c a) n b path e = blocked u t a _ b (path ++ Denies b c ∷ []) (blocked_more u path (Denies b c) e)
+  blocked u t (Then c a) n b path e = blocked u t a _ b (path ++ Positive b c ∷ []) (blocked_more u path (Positive b c) e)
+  blocked u t (Else c a) n b path e = blocked u t a _ b (path ++ Negative b c ∷ []) (blocked_more u path (Negative b c) e)
   blocked u t (New cell a) n b path e = blocked u t a _ (b ++ t ∷ []) path e
 
   -- leaves that tell nothing are not to tell

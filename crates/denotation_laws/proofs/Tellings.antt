@@ -11,7 +11,7 @@ use Rattle.agent_core.specs.Programs.{CoreProgram}
 use Rattle.agent_core.specs.Agents.{Constraint}
 use Rattle.agent_core.specs.Names.{name_of}
 use Rattle.agent_core.specs.Stores.{IsStore}
-use Rattle.agent_core.specs.Scope.{TokenFits, AskFits}
+use Rattle.agent_core.specs.Scope.{TokenFits, ConstraintFits}
 use Rattle.agent_core.specs.Tellings.{tell_at, tell_all}
 use Rattle.agent_core.proofs.Tellings.{tells_one}
 
@@ -27,12 +27,12 @@ read-told p b u cell t f n named all same d read =
 -- what is left of the tokens is still to be told, from w on
 pub record IsLeftToTell (p : CoreProgram) (b : List ℕ) (items : Constraint) (u : Valuation) (i : ℕ) (w : Valuation) : Type 0 where
   pub same : tell_all p b (drop i items) w ≡ tell_all p b items u
-  pub fits : AskFits p b (drop i items)
+  pub fits : ConstraintFits p b (drop i items)
   pub store : IsStore p w
 
 module _ (p : CoreProgram) (b : List ℕ) (items : Constraint) (u : Valuation) (i : ℕ) (w : Valuation) (left : IsLeftToTell p b items u i w) where
-  first_fits : (pair : ℕ × Token) → i < length items → TokenFits p b (get_or items i pair) × AskFits p b (drop (i + 1) items)
-  first_fits pair lt = subst (AskFits p b) (drop_more items i pair lt) left.fits
+  first_fits : (pair : ℕ × Token) → i < length items → TokenFits p b (get_or items i pair) × ConstraintFits p b (drop (i + 1) items)
+  first_fits pair lt = subst (ConstraintFits p b) (drop_more items i pair lt) left.fits
 
   pub token_fits : (pair : ℕ × Token) → i < length items → TokenFits p b (get_or items i pair)
   token_fits pair lt = (first_fits pair lt).0

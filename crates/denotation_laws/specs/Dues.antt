@@ -4,7 +4,7 @@ use Rattle.std.specs.List.{list_any, list_all}
 use Rattle.token_system.specs.Stores.{Valuation}
 use Rattle.agent_core.specs.Agents.{Constraint, agent_at}
 use Rattle.agent_core.specs.Programs.{CoreProgram}
-use Rattle.agent_core.specs.Observed.{suffixes}
+use Rattle.agent_core.specs.RestsAfter.{suffixes}
 use Rattle.agent_core.specs.Closures.{started}
 use Rattle.agent_core.specs.Rests.{entails}
 use Rattle.agent_core.specs.Leaves.{Guard, Leaf, leaves_of, leaves, tells, allows, runs}

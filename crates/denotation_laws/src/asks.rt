@@ -1,7 +1,7 @@
 //! What a store entails of a constraint, and the store after the constraint is told.
 ghost use Rattle.std.specs.Prelude.{◌≡◌, IfOk, OnOk, slice_get};
 ghost use Rattle.agent_core.specs.Rests as specs;
-ghost use Rattle.agent_core.specs.Scope.{TokenFits, AskFits};
+ghost use Rattle.agent_core.specs.Scope.{TokenFits, ConstraintFits};
 ghost use Rattle.agent_core.specs.Stores.{IsStore};
 ghost use Rattle.agent_core.specs.Tellings as tellings;
 
@@ -36,7 +36,7 @@ pub(crate) fn has_all(
     ask: &Constraint,
 ) -> Result<bool, Memory>
     requires store { IsStore program.now store.now }
-    requires fits { AskFits program.now births.now ask.now }
+    requires fits { ConstraintFits program.now births.now ask.now }
     ensures { IfOk result (λ b. b ≡ specs.entails program.now births.now store.now ask.now) }
 {
     for (cell, token) in ask.list() {
@@ -75,7 +75,7 @@ pub(crate) fn tell_all(
     store: &mut Store,
 ) -> Result<(), Memory>
     requires store { IsStore program.now store.old }
-    requires fits { AskFits program.now births.now ask.now }
+    requires fits { ConstraintFits program.now births.now ask.now }
     ensures { OnOk result (store.new ≡ tellings.tell_all program.now births.now ask.now store.old) }
 {
     for (cell, token) in ask.list() {

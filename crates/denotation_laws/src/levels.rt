@@ -1,6 +1,6 @@
 //! The numbers that a table gives to cells.
 ghost use Rattle.std.specs.Prelude.{◌≡◌, ◌<◌, slice_index};
-ghost use Rattle.agent_core.specs.Facts.{IsProgram};
+ghost use Rattle.agent_core.specs.WellFormed.{IsWellFormed};
 ghost use Rattle.agent_laws.specs.Ways.{AreBelow};
 ghost use Rattle.denotation_laws.specs.Dues as dues;
 
@@ -29,7 +29,7 @@ pub(crate) fn is_upto(levels: &Levels, stratum: u32, ask: &Constraint) -> bool
 /// A number above those of the program's cells.
 pub(crate) fn strata_of(program: &Program, levels: &Levels) -> u32
     ensures below { AreBelow program.now levels.now result }
-    ensures program { IsProgram program.now }
+    ensures program { IsWellFormed program.now }
 {
     let mut strata = 0;
     for cell in 0..program.cells().len() {

@@ -1,7 +1,7 @@
 //! The outputs of a run, by walks over the whole history at each instant.
 ghost use Rattle.std.specs.Prelude.{◌≡◌, ◌+◌, ◌<◌, ◌≤◌, ◌^◌, ℕ, All, IfOk, OnOk, length};
 ghost use Rattle.token_system.specs.Stores.{Valuation};
-ghost use Rattle.agent_core.specs.Facts.{IsProgram};
+ghost use Rattle.agent_core.specs.WellFormed.{IsWellFormed};
 ghost use Rattle.agent_core.specs.Outputs.{IsOutput, IsRun};
 ghost use Rattle.agent_core.specs.Stores.{IsInput, IsStore};
 ghost use Rattle.agent_core.specs.Strata.{Stratifies};
@@ -23,7 +23,7 @@ fn complete_stratum(
     closed: &[Store],
     store: &mut Store,
 ) -> Result<(), Memory>
-    requires program { IsProgram program.now }
+    requires program { IsWellFormed program.now }
     requires stratified { Stratifies program.now levels.now }
     requires closed { All (IsStore program.now) closed.now }
     requires few { length closed.now < 2 ^ 32 }

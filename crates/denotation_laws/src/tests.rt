@@ -1,5 +1,5 @@
 ghost use Rattle.std.specs.Prelude.{◌<◌, ◌≤◌, All, IfOk, length};
-ghost use Rattle.agent_core.specs.Facts.{IsProgram};
+ghost use Rattle.agent_core.specs.WellFormed.{IsWellFormed};
 ghost use Rattle.agent_core.specs.Stores.{IsInput};
 
 use crate::slow_run;
@@ -18,7 +18,7 @@ fn on(alloc: Global, cell: u32) -> Result<Constraint, Fail> {
 
 /// The program of these nodes over so many signals, of which the first so many are declared.
 fn over_signals(alloc: Global, count: u32, declared: u32, nodes: Vec<Node>) -> Result<Program, Fail>
-    ensures { IfOk result IsProgram }
+    ensures { IfOk result IsWellFormed }
 {
     let mut cells = Vec::new(alloc);
     for _ in 0..count {

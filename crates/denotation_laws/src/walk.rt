@@ -1,8 +1,8 @@
 //! A walk over a program and the whole history of its run, for a leaf of the present instant that is to tell.
 ghost use Rattle.std.specs.Prelude.{◌<◌, ◌≤◌, ◌^◌, All, IfOk, length};
-ghost use Rattle.agent_core.specs.Facts.{IsProgram};
+ghost use Rattle.agent_core.specs.WellFormed.{IsWellFormed};
 ghost use Rattle.agent_core.specs.Names.{IsClosure};
-ghost use Rattle.agent_core.specs.Scope.{AskFits};
+ghost use Rattle.agent_core.specs.Scope.{ConstraintFits};
 ghost use Rattle.agent_core.specs.Stores.{IsStore};
 ghost use Rattle.denotation_laws.specs.Dues as dues;
 
@@ -26,7 +26,7 @@ struct Walk<'a> {
 impl Walk<'_> {
     /// Tells the constraint, where it is that of a leaf which is to tell, and says whether it is.
     fn tell_due(&self, ask: &Constraint, births: &[u32], store: &mut Store) -> Result<bool, Memory>
-        requires fits { AskFits self.now.program.now births.now ask.now }
+        requires fits { ConstraintFits self.now.program.now births.now ask.now }
         requires store { IsStore self.now.program.now store.old }
         ensures { IfOk result (λ told. dues.Tells self.now.program.now self.now.levels.now self.now.stratum births.now ask.now store.old told store.new) }
     {
@@ -168,7 +168,7 @@ pub(crate) fn tell_first(
     closed: &[Store],
     store: &mut Store,
 ) -> Result<bool, Memory>
-    requires program { IsProgram program.now }
+    requires program { IsWellFormed program.now }
     requires closed { All (IsStore program.now) closed.now }
     requires few { length closed.now < 2 ^ 32 }
     requires store { IsStore program.now store.old }

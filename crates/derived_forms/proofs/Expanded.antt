@@ -6,7 +6,7 @@ use Rattle.agent_core.specs.declared.node.CellDecl.{CellDecl}
 use Rattle.agent_core.specs.declared.node.Node.{Node}
 use Rattle.agent_core.specs.Listing as core
 use Rattle.agent_core.specs.Programs.{CoreProgram}
-use Rattle.agent_core.specs.Facts.{count_up}
+use Rattle.agent_core.specs.WellFormed.{count_up}
 use Rattle.tdcc_reader.specs.Surfaces.{SurfaceProgram}
 use Rattle.tdcc_reader.specs.Texts.{IsSurface}
 use Rattle.tdcc_reader.specs.Trees as tree

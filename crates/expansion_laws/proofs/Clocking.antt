@@ -5,8 +5,8 @@ use Rattle.std.proofs.lemmas.List.{append-nil}
 use Rattle.std.proofs.lemmas.List.Elements.{Contains-append_left, Contains-push}
 use Rattle.token_system.specs.declared.cell.Token.{Token}
 use Rattle.agent_core.specs.Agents.{Constraint}
-use Rattle.agent_core.specs.Leaves.{Guard, Asks, Denies}
-use Rattle.agent_core.specs.Facts.{AreInScope}
+use Rattle.agent_core.specs.Leaves.{Guard, Positive, Negative}
+use Rattle.agent_core.specs.WellFormed.{AreInScope}
 use Rattle.agent_core.specs.Programs.{CoreProgram}
 use Rattle.agent_core.specs.Strata.{Each}
 use Rattle.tdcc_reader.specs.Trees.{Tree, Time}
@@ -32,7 +32,7 @@ pub record IsClocked (ms : List ℕ) (floor : ℕ) (c : Constraint) (w : Way) : 
   pub last : w.scope ≡ newer ++ older
   pub even : length births ≡ length older
   pub known : AreKnown floor (cells_of older) ask
-  pub asks : Contains w.path (Asks births ask)
+  pub asks : Contains w.path (Positive births ask)
 
 pub clocked_on : (ms : List ℕ) (floor : ℕ) (c : Constraint) (w : Way) (g : Guard) → IsClocked ms floor c w → IsClocked ms floor c (below w g)
 clocked_on ms floor c w g h = record {
@@ -46,7 +46,7 @@ clocked_on ms floor c w g h = record {
   last = h.last;
   even = h.even;
   known = h.known;
-  asks = Contains-append_left w.path (g ∷ []) (Asks h.births h.ask) h.asks;
+  asks = Contains-append_left w.path (g ∷ []) (Positive h.births h.ask) h.asks;
 }
 
 -- each cell of the constraint is read in this scope
@@ -82,7 +82,7 @@ module _ (ms : List ℕ) (floor : ℕ) where
     last = refl;
     even = even;
     known = all_known w.scope c h;
-    asks = Contains-push w.path (Asks w.births (ask_of w.scope c));
+    asks = Contains-push w.path (Positive w.births (ask_of w.scope c));
   }
 
   born_clocked : (w : Way) (c : Constraint) (mark cell t : ℕ) → IsClocked ms floor c w → IsClocked ms floor c (born w mark cell t)
@@ -118,7 +118,7 @@ module _ (ms : List ℕ) (floor : ℕ) where
         ever v o =
             let still = wider under v o c (wider w under (opens_born ms w w d cell t e (opens_same ms w even)) c reads) in
             let first = o.wide 0 d (reads_first ms 0 w.scope d cell d refl e) in (
-              h (denied (asked v c) (on d)) o.even still (clocked_on ms floor c (asked v c) (Denies v.births (ask_of v.scope (on d))) (asked_clocked v c o.even still)),
+              h (denied (asked v c) (on d)) o.even still (clocked_on ms floor c (asked v c) (Negative v.births (ask_of v.scope (on d))) (asked_clocked v c o.even still)),
               λ u q. own u (q.wide 0 d first),
             )
 
@@ -126,8 +126,8 @@ module _ (ms : List ℕ) (floor : ℕ) where
     clocks_each : (a : Sketch) (w : Way) → IsEven w → ReadsAll ms floor w.scope c → IsClocked ms floor c w → EachTell ms R w (clocked d c a)
     clocks_each (Skip o) w even reads h = tt
     clocks_each (Tell o b) w even reads h = has o w b h
-    clocks_each (Then o b a) w even reads h = clocks_each a (asked w b) even reads (clocked_on ms floor c w (Asks w.births (ask_of w.scope b)) h)
-    clocks_each (Else o b a) w even reads h = clocks_each a (denied w b) even reads (clocked_on ms floor c w (Denies w.births (ask_of w.scope b)) h)
+    clocks_each (Then o b a) w even reads h = clocks_each a (asked w b) even reads (clocked_on ms floor c w (Positive w.births (ask_of w.scope b)) h)
+    clocks_each (Else o b a) w even reads h = clocks_each a (denied w b) even reads (clocked_on ms floor c w (Negative w.births (ask_of w.scope b)) h)
     clocks_each (Par o l r) w even reads h = (clocks_each l w even reads h, clocks_each r w even reads h)
     clocks_each (New o mark a) w even reads h = λ cell t e.
         clocks_each a (born w mark cell t) (even_born w mark cell t even) (wider w (born w mark cell t) (opens_born ms w w mark cell t e (opens_same ms w even)) c reads) (born_clocked w c mark cell t h)

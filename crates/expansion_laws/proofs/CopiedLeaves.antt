@@ -11,7 +11,7 @@ use Rattle.agent_core.specs.Agents.{Constraint}
 use Rattle.agent_core.specs.Agents as agent
 use Rattle.agent_core.specs.Programs.{CoreProgram}
 use Rattle.agent_core.specs.Names.{depth_of, new_of, local_name, name_of}
-use Rattle.agent_core.specs.Facts.{IsAmong, IsProgram, count_up}
+use Rattle.agent_core.specs.WellFormed.{IsAmong, IsWellFormed, count_up}
 use Rattle.agent_core.specs.Leaves.{Leaf}
 use Rattle.agent_core.proofs.Standing.{StandsAt}
 use Rattle.agent_core.proofs.NewNodes.{new_of-one}
@@ -82,7 +82,7 @@ over_older p k form_count [] older h = h
 over_older p k form_count (q ∷ newer) older h = over_older p k form_count newer older h.1
 
 -- a cell whose new stands around is named under the first births as under all
-module _ (p : CoreProgram) (is : IsProgram p) (k form_count : ℕ) (cells births more : List ℕ) (over : AreOver p k form_count cells) (even : length births ≡ length cells) (x : ℕ) where
+module _ (p : CoreProgram) (is : IsWellFormed p) (k form_count : ℕ) (cells births more : List ℕ) (over : AreOver p k form_count cells) (even : length births ≡ length cells) (x : ℕ) where
   local_same : IsAmong cells x → local_name p.nodes births (new_of p.nodes x) ≡ local_name p.nodes (births ++ more) (new_of p.nodes x)
   local_same among =
       let found = over_one p k form_count cells x over among in
@@ -142,7 +142,7 @@ guarded_leaves s tree p made m a c z l at inside =
     (g.cell, g.marked, around_one p l.node (cells_of there.0) g.cell there.1 g.around, g.denies)
 
 -- what is known of the cells of the clock's ask
-module _ (s : SurfaceProgram) (p : CoreProgram) (is : IsProgram p) (same : p.declared ≡ s.declared) (ms : List ℕ) (c : Constraint) (scope : List Placed) (l : Leaf) (over : AreOver p l.node 1 (cells_of scope)) (g : IsClocked ms s.declared c (way scope l.births l.path)) where
+module _ (s : SurfaceProgram) (p : CoreProgram) (is : IsWellFormed p) (same : p.declared ≡ s.declared) (ms : List ℕ) (c : Constraint) (scope : List Placed) (l : Leaf) (over : AreOver p l.node 1 (cells_of scope)) (g : IsClocked ms s.declared c (way scope l.births l.path)) where
   still_over : AreOver p l.node 1 (cells_of g.older)
   still_over = over_older p l.node 1 g.newer g.older (subst (λ (q : List Placed). AreOver p l.node 1 (cells_of q)) g.last over)
 
@@ -165,7 +165,7 @@ module _ (s : SurfaceProgram) (p : CoreProgram) (is : IsProgram p) (same : p.dec
         (Each-map (λ (pair : ℕ × Token). IsKnown p.declared (cells_of g.older) pair.0) (λ (pair : ℕ × Token). name_of p g.births pair.0 ≡ name_of p l.births pair.0) (λ pair h. named pair.0 h) g.ask known);
   }
 
-pub clocked_leaves : (s : SurfaceProgram) (tree : Tree) (p : CoreProgram) → IsProgram p → IsScopedTree (bare s) [] tree → IsProgramOf s (sketch_of (length s.cells) 0 tree) p
+pub clocked_leaves : (s : SurfaceProgram) (tree : Tree) (p : CoreProgram) → IsWellFormed p → IsScopedTree (bare s) [] tree → IsProgramOf s (sketch_of (length s.cells) 0 tree) p
     → TellsAreClocked s tree (sketch_of (length s.cells) 0 tree) p
 clocked_leaves s tree p is scoped made m a c z l at inside =
     let cells = length s.cells in

@@ -4,7 +4,7 @@ use Rattle.std.specs.Prelude.{Option, slice_get, Contains}
 use Rattle.std.proofs.lemmas.List.Elements.{Contains-append_left, Contains-append_right}
 use Rattle.agent_core.specs.Agents.{Constraint}
 use Rattle.agent_core.specs.Leaves.{Guard}
-use Rattle.agent_core.specs.Facts.{IsAmong}
+use Rattle.agent_core.specs.WellFormed.{IsAmong}
 use Rattle.agent_core.specs.Programs.{CoreProgram}
 use Rattle.tdcc_reader.specs.Trees.{Tree, Skip, Tell, Then, Else, Par, New, Hence, Next, Always, When, Watch, Time, form_count}
 use Rattle.surface_laws.specs.Surfaces.{IsScopedTree}

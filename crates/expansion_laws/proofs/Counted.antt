@@ -3,7 +3,7 @@ use Rattle.std.proofs.Common.{◌≡◌, ℕ, zero, suc, ◌+◌, List, [], ◌�
 use Rattle.std.specs.Prelude.{filter_map, slice_get, unwrap_or}
 use Rattle.std.proofs.lemmas.List.Elements.{filter_map-append}
 use Rattle.agent_core.specs.declared.node.CellDecl.{CellDecl}
-use Rattle.agent_core.specs.Facts.{cell_of, count_up}
+use Rattle.agent_core.specs.WellFormed.{cell_of, count_up}
 use Rattle.agent_core.specs.Listing as core
 use Rattle.expansion_laws.specs.Sketches.{Sketch, Skip, Tell, Then, Else, Par, New, Hence, Next, size, marks}
 use Rattle.expansion_laws.specs.Numbering.{Placed, placed, agent_of, hidden, cells_from}

@@ -4,7 +4,7 @@ use Rattle.std.proofs.Common.{◌≡◌, ◌⊎◌, inl, inr, ℕ, suc, ◌+◌,
 use Rattle.std.specs.Prelude.{slice_get, Contains}
 use Rattle.std.proofs.lemmas.List.Elements.{Contains-append_cases}
 use Rattle.agent_core.specs.Agents.{Constraint}
-use Rattle.agent_core.specs.Facts.{IsAmong, IsConstraint}
+use Rattle.agent_core.specs.WellFormed.{IsAmong, IsConstraint}
 use Rattle.agent_core.specs.Strata.{Each}
 use Rattle.agent_core.proofs.Standing.{stands-head}
 use Rattle.agent_laws.proofs.Eachs.{Each-parts}

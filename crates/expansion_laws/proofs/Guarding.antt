@@ -3,8 +3,8 @@ use Rattle.std.proofs.Common.{◌≡◌, ℕ, suc, ◌+◌, List, [], ◌∷◌,
 use Rattle.std.specs.Prelude.{Option, slice_get, Contains}
 use Rattle.std.proofs.lemmas.List.Elements.{Contains-append_left, Contains-push}
 use Rattle.agent_core.specs.Agents.{Constraint}
-use Rattle.agent_core.specs.Leaves.{Guard, Denies}
-use Rattle.agent_core.specs.Facts.{IsAmong}
+use Rattle.agent_core.specs.Leaves.{Guard, Negative}
+use Rattle.agent_core.specs.WellFormed.{IsAmong}
 use Rattle.tdcc_reader.specs.Trees.{Tree, Watch}
 use Rattle.expansion_laws.specs.Sketches.{Sketch, Skip, Tell, Then, Else, Par, New, Hence, Next}
 use Rattle.expansion_laws.specs.Numbering.{cell_of, ask_of}
@@ -20,14 +20,14 @@ pub record IsGuarded (ms : List ℕ) (k : ℕ) (w : Way) : Type 0 where
   pub cell : ℕ
   pub marked : slice_get ms cell ≡ Some k
   pub around : IsAmong (cells_of w.scope) cell
-  pub denies : Contains w.path (Denies w.births (on cell))
+  pub denies : Contains w.path (Negative w.births (on cell))
 
 pub guarded_on : (ms : List ℕ) (k : ℕ) (w : Way) (g : Guard) → IsGuarded ms k w → IsGuarded ms k (below w g)
-guarded_on ms k w g h = record { cell = h.cell; marked = h.marked; around = h.around; denies = Contains-append_left w.path (g ∷ []) (Denies w.births (on h.cell)) h.denies }
+guarded_on ms k w g h = record { cell = h.cell; marked = h.marked; around = h.around; denies = Contains-append_left w.path (g ∷ []) (Negative w.births (on h.cell)) h.denies }
 
 module _ (ms : List ℕ) (k : ℕ) (R : Option ℕ → Way → Constraint → Type 0) (has : (o : Option ℕ) (w : Way) (c : Constraint) → IsGuarded ms k w → R o w c) where
   among : (w : Way) → Reads ms 0 w.scope k → IsGuarded ms k (denied w (on k))
-  among w h = record { cell = cell_of w.scope k; marked = h.marked; around = among_of (cells_of w.scope) (cell_of w.scope k) h.known; denies = Contains-push w.path (Denies w.births (ask_of w.scope (on k))) }
+  among w h = record { cell = cell_of w.scope k; marked = h.marked; around = among_of (cells_of w.scope) (cell_of w.scope k) h.known; denies = Contains-push w.path (Negative w.births (ask_of w.scope (on k))) }
 
   -- where a cell with this mark is in scope, each tell of the guarded sketch waits for its absence
   guards_each : (a : Sketch) (w : Way) → Reads ms 0 w.scope k → EachTell ms R w (guarded k a)

@@ -12,9 +12,9 @@ use Rattle.agent_core.specs.Agents.{Agent, Constraint, Skip, Tell, Then, Else, P
 use Rattle.agent_core.specs.Programs.{CoreProgram}
 use Rattle.agent_core.specs.Listing.{size}
 use Rattle.agent_core.specs.Rests.{◌⇒◌, entails, agent_rests}
-use Rattle.agent_core.specs.Observed.{suffixes, agent_obs}
+use Rattle.agent_core.specs.RestsAfter.{suffixes, rests_after}
 use Rattle.agent_core.specs.Closures.{closure, started}
-use Rattle.agent_core.specs.Leaves.{Guard, Asks, Denies, Leaf, leaf, leaves_of, allows, runs}
+use Rattle.agent_core.specs.Leaves.{Guard, Positive, Negative, Leaf, leaf, leaves_of, allows, runs}
 use Rattle.agent_core.proofs.Bools.{first_of_both, second_of_both, by_premise}
 use Rattle.expansion_laws.proofs.Members.{first_or, only_in, none_in, flat_in, then_in, else_in, all_in}
 
@@ -48,8 +48,8 @@ module _ (p : CoreProgram) (l : Leaf) where
   passed (Tell q) t n b path c = ([], ap (λ (x : Leaf). x.path) (sym (only_in (leaf n (Tell q) b path) l c)) ∙ sym (append-nil path))
   passed (Hence a) t n b path c = ([], ap (λ (x : Leaf). x.path) (sym (only_in (leaf n (Hence a) b path) l c)) ∙ sym (append-nil path))
   passed (Next a) t n b path c = ([], ap (λ (x : Leaf). x.path) (sym (only_in (leaf n (Next a) b path) l c)) ∙ sym (append-nil path))
-  passed (Then q a) t n b path c = let r = passed a t (suc n) b (path ++ Asks b q ∷ []) c in (Asks b q ∷ r.0, r.1 ∙ append_assoc path (Asks b q ∷ []) r.0)
-  passed (Else q a) t n b path c = let r = passed a t (suc n) b (path ++ Denies b q ∷ []) c in (Denies b q ∷ r.0, r.1 ∙ append_assoc path (Denies b q ∷ []) r.0)
+  passed (Then q a) t n b path c = let r = passed a t (suc n) b (path ++ Positive b q ∷ []) c in (Positive b q ∷ r.0, r.1 ∙ append_assoc path (Positive b q ∷ []) r.0)
+  passed (Else q a) t n b path c = let r = passed a t (suc n) b (path ++ Negative b q ∷ []) c in (Negative b q ∷ r.0, r.1 ∙ append_assoc path (Negative b q ∷ []) r.0)
   passed (New cell a) t n b path c = passed a t (suc n) (b ++ t ∷ []) path c
   passed (Par x y) t n b path c = go (passed x t (suc n) b path) (passed y t (suc n + size x) b path) (Contains-append_cases (leaves_of t x (suc n) b path) (leaves_of t y (suc n + size x) b path) l c)
     where
@@ -70,10 +70,10 @@ module _ (p : CoreProgram) (l : Leaf) where
 
 module _ (p : CoreProgram) (v : Valuation) where
   -- what a par observes both of its parts do
-  pub both_observe : (y : List Valuation) (a a' : Agent) (b : List ℕ) (s : ℕ) → IsTrue (agent_obs p v v y (Par a a') b s) → IsTrue (agent_obs p v v y a b s) × IsTrue (agent_obs p v v y a' b s)
+  pub both_observe : (y : List Valuation) (a a' : Agent) (b : List ℕ) (s : ℕ) → IsTrue (rests_after p v v y (Par a a') b s) → IsTrue (rests_after p v v y a b s) × IsTrue (rests_after p v v y a' b s)
   both_observe [] a a' b s h = (first_of_both (agent_rests p s v a b v) (agent_rests p s v a' b v) h, second_of_both (agent_rests p s v a b v) (agent_rests p s v a' b v) h)
   both_observe (w ∷ y) a a' b s h =
-      (first_of_both (agent_obs p v v (w ∷ y) a b s) (agent_obs p v v (w ∷ y) a' b s) h, second_of_both (agent_obs p v v (w ∷ y) a b s) (agent_obs p v v (w ∷ y) a' b s) h)
+      (first_of_both (rests_after p v v (w ∷ y) a b s) (rests_after p v v (w ∷ y) a' b s) h, second_of_both (rests_after p v v (w ∷ y) a b s) (rests_after p v v (w ∷ y) a' b s) h)
 
 -- The leaf comes of the agent, which was started at s when all but these last stores were still to be closed; and where v
 -- runs the leaf, the agent rests under v.
@@ -82,7 +82,7 @@ pub record Leads (p : CoreProgram) (z : List Valuation) (v : Valuation) (l : Lea
   pub whole : z ≡ front ++ y
   pub long : length front ≡ s
   pub comes : Comes p l y a n b s
-  pub rests : IsTrue (runs p v l) → IsTrue (agent_obs p v v y a b s)
+  pub rests : IsTrue (runs p v l) → IsTrue (rests_after p v v y a b s)
 
 module _ (p : CoreProgram) (z : List Valuation) (v : Valuation) (l : Leaf) where
   abbrev pub Leaded : List Valuation → Agent → ℕ → List ℕ → ℕ → Type 0
@@ -93,11 +93,11 @@ module _ (p : CoreProgram) (z : List Valuation) (v : Valuation) (l : Leaf) where
     front = h.front;
     whole = h.whole;
     long = h.long;
-    comes = (h.comes.0 ++ Asks b c ∷ [], h.comes.1);
+    comes = (h.comes.0 ++ Positive b c ∷ [], h.comes.1);
     rests = λ r.
         by_premise (entails p b v c) (agent_rests p s v a b v)
         (first_of_both (entails p b v c ⇒ agent_rests p s v a b v) (entails p b v c ⇒ agent_rests p s v a b v) (h.rests r))
-        (last_passed p l v a s (suc n) b h.comes.0 (Asks b c) h.comes.1 r);
+        (last_passed p l v a s (suc n) b h.comes.0 (Positive b c) h.comes.1 r);
   }
   leads_then (w ∷ y) c a n b s h =
       let k = h.comes in
@@ -107,19 +107,19 @@ module _ (p : CoreProgram) (z : List Valuation) (v : Valuation) (l : Leaf) where
         whole = h.whole;
         long = h.long;
         comes = (k.0, t.1, k.2);
-        rests = λ r. by_premise (entails p b w c) (agent_obs p v v (w ∷ y) a b s) (h.rests r) t.0;
+        rests = λ r. by_premise (entails p b w c) (rests_after p v v (w ∷ y) a b s) (h.rests r) t.0;
       }
 
-  leads_else-now : (c : Constraint) (a : Agent) (n : ℕ) (b : List ℕ) (s : ℕ) (path : List Guard) → Contains (leaves_of s a (suc n) b (path ++ Denies b c ∷ [])) l
+  leads_else-now : (c : Constraint) (a : Agent) (n : ℕ) (b : List ℕ) (s : ℕ) (path : List Guard) → Contains (leaves_of s a (suc n) b (path ++ Negative b c ∷ [])) l
       → (IsTrue (runs p v l) → IsTrue (not (entails p b v c) ⇒ agent_rests p s v a b v)) → IsTrue (runs p v l) → IsTrue (agent_rests p s v a b v)
-  leads_else-now c a n b s path k f r = by_premise (not (entails p b v c)) (agent_rests p s v a b v) (f r) (last_passed p l v a s (suc n) b path (Denies b c) k r)
+  leads_else-now c a n b s path k f r = by_premise (not (entails p b v c)) (agent_rests p s v a b v) (f r) (last_passed p l v a s (suc n) b path (Negative b c) k r)
 
   pub leads_else : (y : List Valuation) (c : Constraint) (a : Agent) (n : ℕ) (b : List ℕ) (s : ℕ) → Leaded y (Else c a) n b s → Leaded y a (suc n) b s
   leads_else [] c a n b s h = record {
     front = h.front;
     whole = h.whole;
     long = h.long;
-    comes = (h.comes.0 ++ Denies b c ∷ [], h.comes.1);
+    comes = (h.comes.0 ++ Negative b c ∷ [], h.comes.1);
     rests = leads_else-now c a n b s h.comes.0 h.comes.1 h.rests;
   }
   leads_else (w ∷ y) c a n b s h =
@@ -130,7 +130,7 @@ module _ (p : CoreProgram) (z : List Valuation) (v : Valuation) (l : Leaf) where
         whole = h.whole;
         long = h.long;
         comes = (k.0, t.1, k.2);
-        rests = λ r. by_premise (not (entails p b w c)) (agent_obs p v v (w ∷ y) a b s) (h.rests r) (ap not t.0);
+        rests = λ r. by_premise (not (entails p b w c)) (rests_after p v v (w ∷ y) a b s) (h.rests r) (ap not t.0);
       }
 
   pub leads_new : (y : List Valuation) (cell : ℕ) (a : Agent) (n : ℕ) (b : List ℕ) (s : ℕ) → Leaded y (New cell a) n b s → Leaded y a (suc n) (b ++ s ∷ []) s
@@ -189,7 +189,7 @@ module _ (p : CoreProgram) (z : List Valuation) (v : Valuation) (l : Leaf) where
             whole = h.whole ∙ ap (λ (xs : List Valuation). h.front ++ w ∷ xs) skipped.1 ∙ sym (append_assoc h.front (w ∷ skipped.0) x);
             long = omega (arith, length-append h.front (w ∷ skipped.0));
             comes = comes_started p l x a (suc n) b (begun x) (s + length (w ∷ y)) k.0 is (omega arith) from.2 k.2;
-            rests = λ r. all_in (λ z. agent_obs p v v z a b (begun z)) x (suffixes y) (h.rests r) from.1;
+            rests = λ r. all_in (λ z. rests_after p v v z a b (begun z)) x (suffixes y) (h.rests r) from.1;
           },
         )
 
@@ -203,10 +203,10 @@ module _ (p : CoreProgram) (z : List Valuation) (v : Valuation) (l : Leaf) where
   leads_tell (w ∷ y) c n b s h = absurd (none_in _ h.comes.1)
 
   -- right below an else
-  pub leads_denied : (y : List Valuation) (q c : Constraint) (n : ℕ) (b : List ℕ) (s : ℕ) → Leaded y (Else q (Tell c)) n b s → (l.births ≡ b) × Contains l.path (Denies b q)
+  pub leads_denied : (y : List Valuation) (q c : Constraint) (n : ℕ) (b : List ℕ) (s : ℕ) → Leaded y (Else q (Tell c)) n b s → (l.births ≡ b) × Contains l.path (Negative b q)
   leads_denied [] q c n b s h =
-      let e : leaf (suc n) (Tell c) b (h.comes.0 ++ Denies b q ∷ []) ≡ l = only_in _ l h.comes.1 in (
+      let e : leaf (suc n) (Tell c) b (h.comes.0 ++ Negative b q ∷ []) ≡ l = only_in _ l h.comes.1 in (
         ap (λ (x : Leaf). x.births) (sym e),
-        subst (λ (x : Leaf). Contains x.path (Denies b q)) e (Contains-push h.comes.0 (Denies b q)),
+        subst (λ (x : Leaf). Contains x.path (Negative b q)) e (Contains-push h.comes.0 (Negative b q)),
       )
   leads_denied (w ∷ y) q c n b s h = absurd (none_in _ (else_in (entails p b w q) [] h.comes.0 h.comes.1).1)

@@ -6,7 +6,7 @@ use Rattle.agent_core.specs.Agents.{Agent, Constraint, agent_at}
 use Rattle.agent_core.specs.Agents as agent
 use Rattle.agent_core.specs.Programs.{CoreProgram}
 use Rattle.agent_core.specs.Listing as core
-use Rattle.agent_core.specs.Facts.{IsAmong}
+use Rattle.agent_core.specs.WellFormed.{IsAmong}
 use Rattle.agent_core.specs.Names.{depth_of}
 use Rattle.agent_core.proofs.Standing.{StandsAt, stands-itself, stands-head, stands-tail, stands-left, stands-right}
 use Rattle.agent_core.proofs.ListingTrees.{listed_tree, root_tree}

@@ -9,7 +9,7 @@ use Rattle.token_system.specs.declared.cell.Token.{Token}
 use Rattle.token_system.specs.declared.cell.Token.TheVariants.{On}
 use Rattle.agent_core.specs.declared.node.CellDecl.{CellDecl}
 use Rattle.agent_core.specs.Agents.{Constraint}
-use Rattle.agent_core.specs.Facts.{IsAmong}
+use Rattle.agent_core.specs.WellFormed.{IsAmong}
 use Rattle.agent_core.specs.Strata.{Each}
 use Rattle.agent_laws.proofs.Eachs.{Each-map}
 use Rattle.core_text.specs.CoreTexts.{name_at}

@@ -11,7 +11,7 @@ use Rattle.program_lexemes.specs.declared.bytes.TextForm.TheVariants.{Program}
 use Rattle.agent_core.specs.declared.node.CellDecl.{CellDecl}
 use Rattle.agent_core.specs.Agents.{Constraint}
 use Rattle.agent_core.specs.Programs.{CoreProgram}
-use Rattle.agent_core.specs.Facts.{IsAmong, IsInScope, AreInScope, IsConstraint, Scoped}
+use Rattle.agent_core.specs.WellFormed.{IsAmong, IsInScope, AreInScope, IsConstraint, Scoped}
 use Rattle.agent_core.specs.Strata.{Each}
 use Rattle.agent_core.proofs.Standing.{StandsAt, stands-head, stands-tail, stands-left, stands-right}
 use Rattle.agent_laws.proofs.Eachs.{Each-map}

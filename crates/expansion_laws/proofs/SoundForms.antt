@@ -5,7 +5,7 @@ use Rattle.token_system.specs.Tokens.{Fits}
 use Rattle.token_system.specs.declared.cell.Token.{Token}
 use Rattle.agent_core.specs.declared.node.CellDecl.{CellDecl}
 use Rattle.agent_core.specs.Agents.{Constraint}
-use Rattle.agent_core.specs.Facts.{IsAmong, IsInScope, AreInScope, IsConstraint}
+use Rattle.agent_core.specs.WellFormed.{IsAmong, IsInScope, AreInScope, IsConstraint}
 use Rattle.agent_core.specs.Strata.{Each}
 use Rattle.tdcc_reader.specs.Surfaces.{SurfaceProgram}
 use Rattle.tdcc_reader.specs.Trees.{Tree, form_count}

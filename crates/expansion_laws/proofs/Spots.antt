@@ -6,7 +6,7 @@ use Rattle.agent_core.specs.Agents.{Constraint, agent_at}
 use Rattle.agent_core.specs.Agents as agent
 use Rattle.agent_core.specs.Programs.{CoreProgram}
 use Rattle.agent_core.specs.Listing as core
-use Rattle.agent_core.specs.Leaves.{Guard, Asks, Denies, Leaf}
+use Rattle.agent_core.specs.Leaves.{Guard, Positive, Negative, Leaf}
 use Rattle.agent_core.proofs.Standing.{stands-head}
 use Rattle.agent_core.proofs.ListingTrees.{listed_tree}
 use Rattle.tdcc_reader.specs.Surfaces.{SurfaceProgram}
@@ -129,8 +129,8 @@ module _ (x : Trail) where
         let (node, tell) = leads_tell x.program x.closed x.output x.leaf q.stores (ask_of q.scope c) q.node q.births q.start h.leads in
         let origin : slice_get (origins x.sketch) x.leaf.node ≡ Some o = ap (λ (k : ℕ). slice_get (origins x.sketch) k) node ∙ stands-head h.part.from in
         each form (stems_there x.surface x.sketch x.leaf (ask_of q.scope c) form o origin tell stems) is
-    not_at (Then o c a) q path h each = not_at a (under q) (path ++ Asks q.births (ask_of q.scope c) ∷ []) (at_then q o c a h) each
-    not_at (Else o c a) q path h each = not_at a (under q) (path ++ Denies q.births (ask_of q.scope c) ∷ []) (at_else q o c a h) each
+    not_at (Then o c a) q path h each = not_at a (under q) (path ++ Positive q.births (ask_of q.scope c) ∷ []) (at_then q o c a h) each
+    not_at (Else o c a) q path h each = not_at a (under q) (path ++ Negative q.births (ask_of q.scope c) ∷ []) (at_else q o c a h) each
     not_at (Par o a b) q path h each = go (λ r. not_at a (under q) path r each.0) (λ r. not_at b (beside q a) path r each.1) (at_par q o a b h)
       where
         go : (At (under q) a → ⊥) → (At (beside q a) b → ⊥) → At (under q) a ⊎ At (beside q a) b → ⊥

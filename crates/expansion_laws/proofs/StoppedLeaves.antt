@@ -16,10 +16,10 @@ use Rattle.agent_core.specs.Agents.{Constraint}
 use Rattle.agent_core.specs.Agents as agent
 use Rattle.agent_core.specs.Programs.{CoreProgram}
 use Rattle.agent_core.specs.Names.{depth_of, new_of, local_name, name_of}
-use Rattle.agent_core.specs.Facts.{IsAmong, IsProgram, AreInScope}
-use Rattle.agent_core.specs.Leaves.{Leaf, Denies, allows, runs}
+use Rattle.agent_core.specs.WellFormed.{IsAmong, IsWellFormed, AreInScope}
+use Rattle.agent_core.specs.Leaves.{Leaf, Negative, allows, runs}
 use Rattle.agent_core.specs.Rests.{holds_at, holds, entails}
-use Rattle.agent_core.specs.Observed.{agent_obs}
+use Rattle.agent_core.specs.RestsAfter.{rests_after}
 use Rattle.agent_core.specs.Strata.{Each}
 use Rattle.agent_core.proofs.Standing.{stands-head, stands-tail}
 use Rattle.agent_core.proofs.Places.{depth_of-place}
@@ -60,12 +60,12 @@ module _ (p : CoreProgram) (b b' : List ℕ) (w : Valuation) where
   entails_alike (pair ∷ ask) h = ap (λ (x : Bool). x && entails p b w ask) (holds_alike pair.0 pair.1 h.0) ∙ ap (λ (x : Bool). holds p b' w pair && x) (entails_alike ask h.1)
 
 -- no leaf is run while what it waits for is there
-pub not_run : (p : CoreProgram) (v : Valuation) (l : Leaf) (b : List ℕ) (ask : Constraint) → Contains l.path (Denies b ask) → (IsTrue (runs p v l) → IsTrue (entails p b v ask)) → IsFalse (runs p v l)
+pub not_run : (p : CoreProgram) (v : Valuation) (l : Leaf) (b : List ℕ) (ask : Constraint) → Contains l.path (Negative b ask) → (IsTrue (runs p v l) → IsTrue (entails p b v ask)) → IsFalse (runs p v l)
 not_run p v l b ask k h = go (runs p v l) refl
   where
     go : (r : Bool) → runs p v l ≡ r → r ≡ false
     go false e = refl
-    go true e = absurd (true_false (sym (all_in (allows p v) (Denies b ask) l.path e k) ∙ ap not (h e)))
+    go true e = absurd (true_false (sym (all_in (allows p v) (Negative b ask) l.path e k) ∙ ap not (h e)))
 
 -- a new of another mark changes nothing for a constraint
 pub ask_under : (k n : ℕ) (scope : List Placed) (c : Constraint) → Each (λ (pair : ℕ × Token). pair.0 < k) c → ask_of (placed k n ∷ scope) c ≡ ask_of scope c
@@ -151,12 +151,12 @@ module _ (x : Trail) (y : Aim x) (f : Found x y) where
 
   -- OBSERVED
 
-  observed : IsTrue (runs x.program x.output x.leaf) → IsTrue (agent_obs x.program x.output x.output f.spot.stores (agent.Par (once ask (on hidden)) (agent.Hence (once ask (on hidden)))) births f.spot.start)
+  observed : IsTrue (runs x.program x.output x.leaf) → IsTrue (rests_after x.program x.output x.output f.spot.stores (agent.Par (once ask (on hidden)) (agent.Hence (once ask (on hidden)))) births f.spot.start)
   observed r =
-      subst (λ (k : ℕ). IsTrue (agent_obs x.program x.output x.output f.spot.stores (agent.Par (once ask (on k)) (agent.Hence (once ask (on k)))) births f.spot.start)) read
+      subst (λ (k : ℕ). IsTrue (rests_after x.program x.output x.output f.spot.stores (agent.Par (once ask (on k)) (agent.Hence (once ask (on k)))) births f.spot.start)) read
       (both_observe x.program x.output f.spot.stores (agent_of scope (suc hidden) clock) (agent_of scope (suc hidden + length (marks clock)) body) births f.spot.start (inner.leads.rests r)).0
 
-  module _ (program : IsProgram x.program) (same : x.program.declared ≡ x.surface.declared) (within : x.surface.declared ≤ length x.surface.cells) where
+  module _ (program : IsWellFormed x.program) (same : x.program.declared ≡ x.surface.declared) (within : x.surface.declared ≤ length x.surface.cells) where
     -- NAMES
 
     new_is : new_of x.program.nodes hidden ≡ f.spot.node

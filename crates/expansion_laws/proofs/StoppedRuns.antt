@@ -6,7 +6,7 @@ use Rattle.std.proofs.lemmas.Option.{slice_get_within}
 use Rattle.token_system.specs.Stores.{Valuation}
 use Rattle.agent_core.specs.Agents.{Agent, agent_at}
 use Rattle.agent_core.specs.Programs.{CoreProgram}
-use Rattle.agent_core.specs.Facts.{IsAmong, IsProgram, count_up}
+use Rattle.agent_core.specs.WellFormed.{IsAmong, IsWellFormed, count_up}
 use Rattle.agent_core.specs.Leaves.{runs}
 use Rattle.agent_core.specs.Rests.{entails}
 use Rattle.agent_core.proofs.ListingTrees.{root_tree}
@@ -33,7 +33,7 @@ counted_below first zero end le = tt
 counted_below first (suc n) end le = (omega arith, counted_below (suc first) n end (omega arith))
 
 -- what was found is what the law speaks of
-module _ (x : Trail) (y : Aim x) (f : Found x y) (program : IsProgram x.program) (made : IsProgramOf x.surface x.sketch x.program) (within : x.surface.declared ≤ length x.surface.cells) where
+module _ (x : Trail) (y : Aim x) (f : Found x y) (program : IsWellFormed x.program) (made : IsProgramOf x.surface x.sketch x.program) (within : x.surface.declared ≤ length x.surface.cells) where
   found_watched : IsWatched x.surface x.sketch x.program y.number y.stop x.leaf f.spot.start f.spot.births (ask x y f)
   found_watched = let wait = waiting x y f in record {
     hidden = f.spot.cell;
@@ -62,7 +62,7 @@ module _ (x : Trail) (y : Aim x) (f : Found x y) (program : IsProgram x.program)
         stopped x y f program made.declared within (n - f.spot.start) w
         (output_since outs f.at.leads.front f.spot.stores t n f.spot.start x.output w last (closed ∙ f.at.leads.whole) f.at.leads.long from to found) h
 
-pub stops_for_good : (s : SurfaceProgram) (tree : Tree) (p : CoreProgram) → IsProgram p → s.declared ≤ length s.cells → new_cells tree ≡ count_up s.declared (length s.cells - s.declared) → IsScopedTree (bare s) [] tree
+pub stops_for_good : (s : SurfaceProgram) (tree : Tree) (p : CoreProgram) → IsWellFormed p → s.declared ≤ length s.cells → new_cells tree ≡ count_up s.declared (length s.cells - s.declared) → IsScopedTree (bare s) [] tree
     → IsProgramOf s (sketch_of (length s.cells) 0 tree) p → StopsForGood s tree (sketch_of (length s.cells) 0 tree) p
 stops_for_good s tree p program within locals scoped made m a c ins outs t v l free run last inside =
     let d = sketch_of (length s.cells) 0 tree in

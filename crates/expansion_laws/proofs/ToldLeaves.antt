@@ -9,9 +9,9 @@ use Rattle.agent_core.specs.Agents as agent
 use Rattle.agent_core.specs.Programs.{CoreProgram}
 use Rattle.agent_core.specs.Listing as core
 use Rattle.agent_core.specs.Rests.{entails}
-use Rattle.agent_core.specs.Observed.{suffixes}
+use Rattle.agent_core.specs.RestsAfter.{suffixes}
 use Rattle.agent_core.specs.Closures.{started, roots}
-use Rattle.agent_core.specs.Leaves.{Guard, Asks, Denies, Leaf, leaves_of, leaves}
+use Rattle.agent_core.specs.Leaves.{Guard, Positive, Negative, Leaf, leaves_of, leaves}
 use Rattle.agent_core.specs.Strata.{Each}
 use Rattle.agent_core.proofs.Standing.{StandsAt, stands-head}
 use Rattle.agent_core.proofs.ListingTrees.{listed_tree, root_tree}
@@ -42,8 +42,8 @@ module _ (p : CoreProgram) (os : List (Option ℕ)) (ms : List ℕ) (R : Option 
   leaves_told (Tell o a) scope k n b path t at h = (λ c e. record { origin = o; found = stands-head at.from; scope = scope; over = at.over; ask = a; tells = cc; holds = h }, tt)
   leaves_told (Hence o a) scope k n b path t at h = (λ c e. absurd (cc), tt)
   leaves_told (Next o a) scope k n b path t at h = (λ c e. absurd (cc), tt)
-  leaves_told (Then o c a) scope k n b path t at h = leaves_told a scope (suc k) n b (path ++ Asks b (ask_of scope c) ∷ []) t (then_part p os ms scope k n o c a at) h
-  leaves_told (Else o c a) scope k n b path t at h = leaves_told a scope (suc k) n b (path ++ Denies b (ask_of scope c) ∷ []) t (else_part p os ms scope k n o c a at) h
+  leaves_told (Then o c a) scope k n b path t at h = leaves_told a scope (suc k) n b (path ++ Positive b (ask_of scope c) ∷ []) t (then_part p os ms scope k n o c a at) h
+  leaves_told (Else o c a) scope k n b path t at h = leaves_told a scope (suc k) n b (path ++ Negative b (ask_of scope c) ∷ []) t (else_part p os ms scope k n o c a at) h
   leaves_told (New o mark a) scope k n b path t at h =
       leaves_told a (placed mark n ∷ scope) (suc k) (suc n) (b ++ t ∷ []) path t (new_part p os ms scope k n o mark a at) (h n t (stands-head at.marked))
   leaves_told (Par o l r) scope k n b path t at h =
@@ -66,10 +66,10 @@ module _ (p : CoreProgram) (os : List (Option ℕ)) (ms : List ℕ) (R : Option 
   starts_told (Tell o a) (w ∷ z) scope k n b path s at even free h = tt
   starts_told (Then o c a) (w ∷ z) scope k n b path s at even free h =
       Each-if TellsTold (entails p b w (ask_of scope c)) _ []
-      (starts_told a (w ∷ z) scope (suc k) n b (path ++ Asks b (ask_of scope c) ∷ []) s (then_part p os ms scope k n o c a at) even (λ e. absurd (cc)) h) tt
+      (starts_told a (w ∷ z) scope (suc k) n b (path ++ Positive b (ask_of scope c) ∷ []) s (then_part p os ms scope k n o c a at) even (λ e. absurd (cc)) h) tt
   starts_told (Else o c a) (w ∷ z) scope k n b path s at even free h =
       Each-if TellsTold (entails p b w (ask_of scope c)) [] _ tt
-      (starts_told a (w ∷ z) scope (suc k) n b (path ++ Denies b (ask_of scope c) ∷ []) s (else_part p os ms scope k n o c a at) even (λ e. absurd (cc)) h)
+      (starts_told a (w ∷ z) scope (suc k) n b (path ++ Negative b (ask_of scope c) ∷ []) s (else_part p os ms scope k n o c a at) even (λ e. absurd (cc)) h)
   starts_told (Par o l r) (w ∷ z) scope k n b path s at even free h =
       let right = suc k + core.size (agent_of scope n l) in
       let cells = n + length (marks l) in

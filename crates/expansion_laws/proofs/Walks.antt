@@ -5,8 +5,8 @@ use Rattle.std.specs.Prelude.{Option, slice_get, nat_eq, if◌then◌else◌}
 use Rattle.std.proofs.lemmas.Bool.{eqb-true, eq-eqb}
 use Rattle.token_system.specs.declared.cell.Token.{Token}
 use Rattle.agent_core.specs.Agents.{Constraint}
-use Rattle.agent_core.specs.Leaves.{Guard, Asks, Denies}
-use Rattle.agent_core.specs.Facts.{IsAmong}
+use Rattle.agent_core.specs.Leaves.{Guard, Positive, Negative}
+use Rattle.agent_core.specs.WellFormed.{IsAmong}
 use Rattle.agent_core.specs.Strata.{Each}
 use Rattle.expansion_laws.specs.Sketches.{Sketch, Skip, Tell, Then, Else, Par, New, Hence, Next}
 use Rattle.expansion_laws.specs.Numbering.{Placed, placed, cell_of, ask_of}
@@ -28,10 +28,10 @@ abbrev pub below : Way → Guard → Way
 below w g = way w.scope w.births (w.path ++ g ∷ [])
 
 abbrev pub asked : Way → Constraint → Way
-asked w c = below w (Asks w.births (ask_of w.scope c))
+asked w c = below w (Positive w.births (ask_of w.scope c))
 
 abbrev pub denied : Way → Constraint → Way
-denied w c = below w (Denies w.births (ask_of w.scope c))
+denied w c = below w (Negative w.births (ask_of w.scope c))
 
 -- below a new whose cell has this mark and this number, and that was started at t
 abbrev pub born : Way → ℕ → ℕ → ℕ → Way
@@ -184,7 +184,7 @@ module _ (ms : List ℕ) (R : Option ℕ → Way → Constraint → Type 0) wher
   module _ (push : (o : Option ℕ) (w : Way) (c : Constraint) (g : Guard) → R o w c → R o (below w g) c) where
     pub guarded_kept : (k : ℕ) (w : Way) (a : Sketch) → EachTell w a → EachTell w (guarded k a)
     guarded_kept k w (Skip o) h = tt
-    guarded_kept k w (Tell o c) h = push o w c (Denies w.births (ask_of w.scope (on k))) h
+    guarded_kept k w (Tell o c) h = push o w c (Negative w.births (ask_of w.scope (on k))) h
     guarded_kept k w (Then o c a) h = guarded_kept k (asked w c) a h
     guarded_kept k w (Else o c a) h = guarded_kept k (denied w c) a h
     guarded_kept k w (Par o l r) h = (guarded_kept k w l h.0, guarded_kept k w r h.1)

@@ -4,8 +4,8 @@ use Rattle.std.specs.Prelude.{Contains, if◌then◌else◌}
 use Rattle.std.proofs.lemmas.Bool.{ne_eqb}
 use Rattle.std.proofs.lemmas.List.{append-nil}
 use Rattle.agent_core.specs.Programs.{CoreProgram}
-use Rattle.agent_core.specs.Facts.{IsAmong}
-use Rattle.agent_core.specs.Leaves.{Leaf, Denies}
+use Rattle.agent_core.specs.WellFormed.{IsAmong}
+use Rattle.agent_core.specs.Leaves.{Leaf, Negative}
 use Rattle.agent_core.specs.Strata.{Each}
 use Rattle.agent_laws.proofs.Eachs.{Each-parts}
 use Rattle.expansion_laws.specs.Sketches.{Sketch, Skip, Tell, Then, Else, Par, New, Hence, Next, marks}
@@ -20,7 +20,7 @@ use Rattle.expansion_laws.proofs.Spots.{Trail, Spot, under, inside, beside, late
 
 -- the leaf waits for the absence of this cell, whose new stands around the leaf, and has these births first
 pub record Waits (p : CoreProgram) (l : Leaf) (cell : ℕ) (births : List ℕ) : Type 0 where
-  pub denied : Contains l.path (Denies l.births (on cell))
+  pub denied : Contains l.path (Negative l.births (on cell))
   pub around : IsAround p cell l.node
   pub more : List ℕ
   pub first : l.births ≡ births ++ more
@@ -51,7 +51,7 @@ module _ (x : Trail) (mark cell : ℕ) (births : List ℕ) where
       let (same, denied) = leads_denied x.program x.closed x.output x.leaf q.stores (ask_of q.scope (on mark)) (ask_of q.scope c) q.node q.births q.start h.leads in
       let (node, tell) = leads_tell x.program x.closed x.output x.leaf q.stores (ask_of q.scope c) (suc q.node) q.births q.start body.leads in
       record {
-        denied = subst (λ (b : List ℕ). Contains x.leaf.path (Denies b (on cell))) (sym same) (subst (λ (c : ℕ). Contains x.leaf.path (Denies q.births (on c))) u.read denied);
+        denied = subst (λ (b : List ℕ). Contains x.leaf.path (Negative b (on cell))) (sym same) (subst (λ (c : ℕ). Contains x.leaf.path (Negative q.births (on c))) u.read denied);
         around = around_one x.program x.leaf.node (cells_of q.scope) cell (subst (λ (n : ℕ). AreOver x.program n 1 (cells_of q.scope)) (sym node) body.part.over) u.among;
         more = u.more;
         first = same ∙ u.first;

@@ -9,7 +9,7 @@ use Rattle.agent_core.specs.declared.node.Node.{Node}
 use Rattle.agent_core.specs.Agents.{agent_at}
 use Rattle.agent_core.specs.Programs.{CoreProgram}
 use Rattle.agent_core.specs.Listing as core
-use Rattle.agent_core.specs.Facts.{IsProgram, Scoped, cell_of, count_up}
+use Rattle.agent_core.specs.WellFormed.{IsWellFormed, Scoped, cell_of, count_up}
 use Rattle.agent_core.proofs.Standing.{StandsAt}
 use Rattle.agent_core.proofs.ListingTrees.{length-listing, root_tree}
 use Rattle.tdcc_reader.specs.Surfaces.{SurfaceProgram}
@@ -142,7 +142,7 @@ module _ (s : SurfaceProgram) (is : IsWellFormedSurface Program s) (d : Sketch) 
         let agent = agent_sound s.cells p over p.declared [] d (omega arith) tt local_stands sound in
         (subst (Scoped p []) (sym root) agent.0, subst (AreFresh p []) (sym root) agent.1)
 
-    pub expansion_program : IsProgram p
+    pub expansion_program : IsWellFormed p
     expansion_program =
         let many = cells_many s d p is e in
         let declared = e.declared in

@@ -5,7 +5,7 @@ use Rattle.agent_core.specs.declared.node.Node.TheVariants as nodes
 use Rattle.agent_core.specs.Agents.{Constraint, agent_at}
 use Rattle.agent_core.specs.Programs.{CoreProgram}
 use Rattle.agent_core.specs.Listing as core
-use Rattle.agent_core.specs.Facts.{count_up}
+use Rattle.agent_core.specs.WellFormed.{count_up}
 use Rattle.tdcc_reader.specs.Surfaces.{SurfaceProgram}
 use Rattle.tdcc_reader.specs.Trees.{Tree, Skip, Tell, Then, Else, Par, New, Hence, Next, Always, When, Watch, Time, form_count}
 use Rattle.expansion_laws.specs.Sketches.{Sketch, marks}

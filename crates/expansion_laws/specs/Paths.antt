@@ -12,7 +12,7 @@ use Rattle.agent_core.specs.Names.{name_of, new_of}
 use Rattle.agent_core.specs.Outputs.{IsRun}
 use Rattle.agent_core.specs.Rests.{entails}
 use Rattle.agent_core.specs.Closures.{roots}
-use Rattle.agent_core.specs.Leaves.{Leaf, Asks, Denies, leaves, runs}
+use Rattle.agent_core.specs.Leaves.{Leaf, Positive, Negative, leaves, runs}
 use Rattle.tdcc_reader.specs.Surfaces.{SurfaceProgram}
 use Rattle.tdcc_reader.specs.Trees.{Tree, Tell, Watch, Time, form_count}
 use Rattle.expansion_laws.specs.Sketches.{Sketch, origins}
@@ -66,7 +66,7 @@ abbrev pub TellsAreGuarded : SurfaceProgram → Tree → Sketch → CoreProgram 
 TellsAreGuarded s tree d p =
     (m : ℕ) (a : Tree) (c : Constraint) (z : List Valuation) (l : Leaf) →
     Contains (parts 0 tree) (part m (Watch a c)) → IsTellInside s d p z m a l →
-    (k : ℕ) × IsHidden s d m k × IsAround p k l.node × Contains l.path (Denies l.births (on k))
+    (k : ℕ) × IsHidden s d m k × IsAround p k l.node × Contains l.path (Negative l.births (on k))
 
 -- the clock that a leaf's path asks for: it copies this constraint, its local cells are those of news around the leaf, and the
 -- births under which it is asked for name its cells as those of the leaf do
@@ -75,7 +75,7 @@ pub record IsOnClock (s : SurfaceProgram) (d : Sketch) (p : CoreProgram) (l : Le
   pub copies : copied (cell_marks s d) ask ≡ c
   pub around : AreAround p ask l.node
   pub births : List ℕ
-  pub asks : Contains l.path (Asks births ask)
+  pub asks : Contains l.path (Positive births ask)
   pub same : All (λ (pair : ℕ × Token). name_of p births pair.0 ≡ name_of p l.births pair.0) ask
 
 -- Each tell that stems from a form inside a time is on the clock.
@@ -90,7 +90,7 @@ pub record IsWatched (s : SurfaceProgram) (d : Sketch) (p : CoreProgram) (m : �
   pub hidden : ℕ
   pub is : IsHidden s d m hidden
   pub around : IsAround p hidden l.node
-  pub denied : Contains l.path (Denies l.births (on hidden))
+  pub denied : Contains l.path (Negative l.births (on hidden))
   pub more : List ℕ
   pub first : l.births ≡ births ++ start ∷ more
   pub named : name_of p l.births hidden ≡ Local (new_of p.nodes hidden) (births ++ start ∷ [])

@@ -1,6 +1,6 @@
 // The laws of expansions as programs, each proved as the contract of a function that calls the law of surfaces alone.
 ghost use Rattle.std.specs.Prelude.{◌≡◌, ◌+◌, ◌≤◌, length};
-ghost use Rattle.agent_core.specs.Facts.{IsProgram};
+ghost use Rattle.agent_core.specs.WellFormed.{IsWellFormed};
 ghost use Rattle.agent_core.specs.Programs.{CoreProgram};
 ghost use Rattle.core_text.specs.GoodNames.{HasGoodNames};
 ghost use Rattle.tdcc_reader.specs.Surfaces.{SurfaceProgram};
@@ -16,7 +16,7 @@ pub fn expansion_law()
     ensures some { (s : SurfaceProgram) → IsSurface s → (p : CoreProgram) × IsExpansion s p }
     ensures one { (s : SurfaceProgram) (p q : CoreProgram) → IsExpansion s p → IsExpansion s q → p ≡ q }
     ensures program { (s : SurfaceProgram) (p : CoreProgram) → IsSurface s → IsExpansion s p
-        → length p.nodes ≤ 4096 → length p.cells ≤ 1024 → IsProgram p }
+        → length p.nodes ≤ 4096 → length p.cells ≤ 1024 → IsWellFormed p }
     ensures names { (s : SurfaceProgram) (p : CoreProgram) → IsSurface s → IsExpansion s p
         → length p.nodes ≤ 4096 → length p.cells ≤ 1024 → HasGoodNames p }
 {

@@ -16,9 +16,9 @@ use Rattle.agent_core.specs.Agents.{Agent, Skip, Tell, Then, Else, Par, New, Hen
 use Rattle.agent_core.specs.Programs.{CoreProgram}
 use Rattle.agent_core.specs.Listing.{size, listing, IsListing}
 use Rattle.agent_core.specs.Rests.{entails}
-use Rattle.agent_core.specs.Observed.{suffixes}
+use Rattle.agent_core.specs.RestsAfter.{suffixes}
 use Rattle.agent_core.specs.Closures.{closure, closure_cmp, put_by, put, sorted, started, roots}
-use Rattle.agent_core.specs.Leaves.{Guard, Asks, Denies, leaves_of, leaves, runs, ran}
+use Rattle.agent_core.specs.Leaves.{Guard, Positive, Negative, leaves_of, leaves, runs, ran}
 use Rattle.agent_core.specs.Strata.{Each, In}
 use Rattle.agent_core.proofs.Standing.{StandsAt, stands-tail}
 use Rattle.agent_core.proofs.ListingTrees.{left_listed, right_listed, listed_tree}
@@ -217,8 +217,8 @@ module _ (p : CoreProgram) where
     bodies-few : (a : Agent) (n : ℕ) (b c : List ℕ) (path : List Guard) → StandsAt Node p.nodes n (listing n a) → length (leaves_of t a n b path) + many (bodies a n c) ≤ size a
     bodies-few Skip n b c path at = omega arith
     bodies-few (Tell ask) n b c path at = omega arith
-    bodies-few (Then ask a) n b c path at = let few = bodies-few a (suc n) b c (path ++ Asks b ask ∷ []) (stands-tail at) in omega arith
-    bodies-few (Else ask a) n b c path at = let few = bodies-few a (suc n) b c (path ++ Denies b ask ∷ []) (stands-tail at) in omega arith
+    bodies-few (Then ask a) n b c path at = let few = bodies-few a (suc n) b c (path ++ Positive b ask ∷ []) (stands-tail at) in omega arith
+    bodies-few (Else ask a) n b c path at = let few = bodies-few a (suc n) b c (path ++ Negative b ask ∷ []) (stands-tail at) in omega arith
     bodies-few (Par l r) n b c path at =
         let left = bodies-few l (suc n) b c path (left_listed l r at) in
         let right = bodies-few r (suc n + size l) b c path (right_listed l r at) in

@@ -3,7 +3,7 @@
 use Rattle.std.specs.Prelude.{ℕ, ◌<◌, List, [], ◌∷◌, ◌++◌, length, map, flat_map}
 use Rattle.std.specs.List.{range_with_len}
 use Rattle.agent_core.specs.Programs.{CoreProgram}
-use Rattle.agent_core.specs.Facts.{IsProgram}
+use Rattle.agent_core.specs.WellFormed.{IsWellFormed}
 use Rattle.agent_core.specs.Strata.{Stratifies}
 use Rattle.generated_laws.specs.GeneratedParts.{Part, Starts, Ends, parts}
 
@@ -22,7 +22,7 @@ table n = declared_levels ++ flat_map part_levels (parts n)
 
 -- a program far below the limits, with this table
 pub record IsSmall (p : CoreProgram) (levels : List ℕ) : Type 0 where
-  pub is : IsProgram p
+  pub is : IsWellFormed p
   pub few_nodes : length p.nodes < 900
   pub few_cells : length p.cells < 80
   pub stratified : Stratifies p levels

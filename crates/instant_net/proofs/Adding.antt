@@ -8,7 +8,7 @@ use Rattle.agent_core.specs.declared.node.Node.TheVariants as nodes
 use Rattle.agent_core.specs.declared.node.Closure.{Closure}
 use Rattle.agent_core.specs.Agents.{Agent, Constraint, Skip, Tell, Hence, Next, agent_of, agent_at}
 use Rattle.agent_core.specs.Programs.{CoreProgram}
-use Rattle.agent_core.specs.Facts.{IsProgram}
+use Rattle.agent_core.specs.WellFormed.{IsWellFormed}
 use Rattle.agent_core.specs.Leaves as core
 use Rattle.instant_net.specs.declared.parts.Atom.{Atom}
 use Rattle.instant_net.specs.declared.parts.NetCell.{NetCell}
@@ -19,7 +19,7 @@ use Rattle.instant_net.specs.declared.parts.LeafKind.TheVariants as kinds
 use Rattle.instant_net.specs.NamedLeaves.{Guard, Kind, Tells, StartsHence, StartsNext, Leaf}
 use Rattle.instant_net.specs.Nets.{AtomFits, named, named_guard, named_kind, atoms_of}
 use Rattle.instant_net.specs.Occurrences.{Occurrence, occurrence, occurrences_of}
-use Rattle.instant_net.specs.Programs.{ask_named, guard_named, kind_named, leaf_named, occurrence_named, root_leaves, root_occurrences}
+use Rattle.instant_net.specs.Programs.{constraint_named, guard_named, kind_named, leaf_named, occurrence_named, root_leaves, root_occurrences}
 use Rattle.instant_net.specs.Walks.{AreAtomsOf, IsBegun, IsEnded, Grown, none, leaf, under, beside, Adds}
 use Rattle.instant_net.proofs.Lists.{set-between, get-between}
 use Rattle.instant_net.proofs.NodeLeaves.{below, agent-is, body-behind, then-below, else-below, new-below, par-below}
@@ -38,7 +38,7 @@ same-grown {cells} {last} {last'} {path} {path'} {k} {k'} {l} {l'} {gs} {ls} {os
 length-more : {X : Type 0} (xs ys : List X) (x : X) → ys ≡ xs ++ x ∷ [] → length ys ≡ suc (length xs)
 length-more xs ys x e = ap length e ∙ length-append xs (x ∷ []) ∙ (let g : length xs + 1 ≡ suc (length xs) = omega arith in g)
 
-module _ (p : CoreProgram) (is : IsProgram p) (cells : List NetCell) (t n : ℕ) (b : List ℕ) (last : Option ℕ) where
+module _ (p : CoreProgram) (is : IsWellFormed p) (cells : List NetCell) (t n : ℕ) (b : List ℕ) (last : Option ℕ) where
   -- what is inside the node, by its kind
   inside : (node : Node) → slice_get p.nodes n ≡ Some node → (path : List core.Guard) → occurrences_of t (agent_at p.nodes n) b path ≡ occurrences_of t (agent_of (agent_at p.nodes) node) b path
   inside node found path = ap (λ (a : Agent). occurrences_of t a b path) (agent-is p is n node found)
@@ -118,7 +118,7 @@ module _ (p : CoreProgram) (is : IsProgram p) (cells : List NetCell) (t n : ℕ)
   }
 
   -- a guard, and what is below it
-  adds-guard : (strict : Bool) (c : Constraint) (mk : core.Guard) → guard_named p mk ≡ record { strict = strict; ask = ask_named p b c } → (m : ℕ) → ((path : List core.Guard) → below p is n t b path n ≡ below p is n t b (path ++ mk ∷ []) m)
+  adds-guard : (strict : Bool) (c : Constraint) (mk : core.Guard) → guard_named p mk ≡ record { strict = strict; ask = constraint_named p b c } → (m : ℕ) → ((path : List core.Guard) → below p is n t b path n ≡ below p is n t b (path ++ mk ∷ []) m)
       → ((path : List core.Guard) → occurrences_of t (agent_at p.nodes n) b path ≡ occurrence mk path ∷ occurrences_of t (agent_at p.nodes m) b (path ++ mk ∷ []))
       → (ask : List Atom) → AreAtomsOf p cells b c ask → (k : ℕ) (gs gs' gs'' gs''' : List NetGuard) (ls ls' ls'' ls''' : List NetLeaf) (g : NetGuard)
       → k ≡ length gs → gs' ≡ gs ++ g ∷ [] → IsBegun strict ask last (length ls) g → ls' ≡ ls → Adds p cells t m b (Some k) gs' gs'' ls' ls'' → IsEnded gs'' gs''' k (length ls'') → ls''' ≡ ls''
@@ -128,9 +128,9 @@ module _ (p : CoreProgram) (is : IsProgram p) (cells : List NetCell) (t n : ℕ)
       let at : slice_get gs'' k ≡ Some g = ap (λ xs. slice_get xs k) whole ∙ ap (slice_get ((gs ++ g ∷ []) ++ h.more_guards)) ek ∙ get-between gs h.more_guards g in
       let one : ended.one ≡ g = let s = ended.stands in cc in
       let g' : NetGuard = record g { past = length ls'' } in
-      let ask_is : named cells g.ask ≡ ask_named p b c = ap (named cells) begun.ask_is ∙ are.same in
+      let ask_is : named cells g.ask ≡ constraint_named p b c = ap (named cells) begun.ask_is ∙ are.same in
       let call : guard_named p mk ≡ named_guard cells g' =
-      called ∙ ap (λ (s : Bool). record { strict = s; ask = ask_named p b c }) (sym begun.strict_is) ∙ ap (λ xs. record { strict = g.strict; ask = xs }) (sym ask_is) in
+      called ∙ ap (λ (s : Bool). record { strict = s; ask = constraint_named p b c }) (sym begun.strict_is) ∙ ap (λ xs. record { strict = g.strict; ask = xs }) (sym ask_is) in
       let leaves : ls'' ≡ ls ++ h.more_leaves = h.leaves_are ∙ ap (λ xs. xs ++ h.more_leaves) el in
       record {
         more_guards = g' ∷ h.more_guards;
@@ -152,13 +152,13 @@ module _ (p : CoreProgram) (is : IsProgram p) (cells : List NetCell) (t n : ℕ)
       → (k : ℕ) (gs gs' gs'' gs''' : List NetGuard) (ls ls' ls'' ls''' : List NetLeaf) (g : NetGuard)
       → k ≡ length gs → gs' ≡ gs ++ g ∷ [] → IsBegun false ask last (length ls) g → ls' ≡ ls → Adds p cells t m b (Some k) gs' gs'' ls' ls'' → IsEnded gs'' gs''' k (length ls'') → ls''' ≡ ls''
       → Adds p cells t n b last gs gs''' ls ls'''
-  adds-then c m found = adds-guard false c (core.Asks b c) refl m (λ path. then-below p is n t b path c m found) (inside (nodes.Then c m) found)
+  adds-then c m found = adds-guard false c (core.Positive b c) refl m (λ path. then-below p is n t b path c m found) (inside (nodes.Then c m) found)
 
   pub adds-else : (c : Constraint) (m : ℕ) → slice_get p.nodes n ≡ Some (nodes.Else c m) → (ask : List Atom) → AreAtomsOf p cells b c ask
       → (k : ℕ) (gs gs' gs'' gs''' : List NetGuard) (ls ls' ls'' ls''' : List NetLeaf) (g : NetGuard)
       → k ≡ length gs → gs' ≡ gs ++ g ∷ [] → IsBegun true ask last (length ls) g → ls' ≡ ls → Adds p cells t m b (Some k) gs' gs'' ls' ls'' → IsEnded gs'' gs''' k (length ls'') → ls''' ≡ ls''
       → Adds p cells t n b last gs gs''' ls ls'''
-  adds-else c m found = adds-guard true c (core.Denies b c) refl m (λ path. else-below p is n t b path c m found) (inside (nodes.Else c m) found)
+  adds-else c m found = adds-guard true c (core.Negative b c) refl m (λ path. else-below p is n t b path c m found) (inside (nodes.Else c m) found)
 
 -- ROOTS
 

@@ -11,12 +11,12 @@ use Rattle.agent_core.specs.declared.node.CellDecl.{CellDecl}
 use Rattle.agent_core.specs.Agents.{Constraint}
 use Rattle.agent_core.specs.Programs.{CoreProgram}
 use Rattle.agent_core.specs.Names.{Names, name_of}
-use Rattle.agent_core.specs.Scope.{TokenFits, AskFits}
+use Rattle.agent_core.specs.Scope.{TokenFits, ConstraintFits}
 use Rattle.agent_core.proofs.OneStore.{Names-one}
 use Rattle.instant_net.specs.declared.parts.Atom.{Atom}
 use Rattle.instant_net.specs.declared.parts.NetCell.{NetCell}
 use Rattle.instant_net.specs.Nets.{AtomFits, named_at, named}
-use Rattle.instant_net.specs.Programs.{token_named, ask_named}
+use Rattle.instant_net.specs.Programs.{token_named, constraint_named}
 use Rattle.instant_net.specs.Walks.{IsNamed, IsPlaceOf, IsAtomOf, AreAtomsOf}
 use Rattle.instant_net.proofs.Lists.{same-elements}
 
@@ -50,11 +50,11 @@ module _ (p : CoreProgram) (cells : List NetCell) (b : List ℕ) where
   named-append [] ys = refl
   named-append (x ∷ xs) ys = ap (λ zs. named_at (slice_get cells x.cell) x ++ zs) (named-append xs ys) ∙ sym (append_assoc (named_at (slice_get cells x.cell) x) (named cells xs) (named cells ys))
 
-  ask_named-append : (xs ys : Constraint) → ask_named p b (xs ++ ys) ≡ ask_named p b xs ++ ask_named p b ys
+  ask_named-append : (xs ys : Constraint) → constraint_named p b (xs ++ ys) ≡ constraint_named p b xs ++ constraint_named p b ys
   ask_named-append [] ys = refl
   ask_named-append (x ∷ xs) ys =
       ap (λ zs. token_named p b x.0 x.1 (slice_get p.cells x.0) ++ zs) (ask_named-append xs ys)
-      ∙ sym (append_assoc (token_named p b x.0 x.1 (slice_get p.cells x.0)) (ask_named p b xs) (ask_named p b ys))
+      ∙ sym (append_assoc (token_named p b x.0 x.1 (slice_get p.cells x.0)) (constraint_named p b xs) (constraint_named p b ys))
 
   pub atoms-none : (items : Constraint) (atoms : List Atom) → atoms ≡ [] → AreAtomsOf p cells b (take 0 items) atoms
   atoms-none items atoms e = record { same = ap (named cells) e; fit = subst (All (AtomFits cells)) (sym e) (All-nil (AtomFits cells)) }
@@ -67,9 +67,9 @@ module _ (p : CoreProgram) (cells : List NetCell) (b : List ℕ) where
         same =
             ap (named cells) e ∙ named-append atoms (a ∷ [])
             ∙ ap (λ zs. zs ++ (named_at (slice_get cells a.cell) a ++ [])) h.same
-            ∙ ap (λ zs. ask_named p b (take i items) ++ (zs ++ [])) one.same
+            ∙ ap (λ zs. constraint_named p b (take i items) ++ (zs ++ [])) one.same
             ∙ sym (ask_named-append (take i items) (y ∷ []))
-            ∙ ap (ask_named p b) (sym (take_more items i x lt));
+            ∙ ap (constraint_named p b) (sym (take_more items i x lt));
         fit = subst (All (AtomFits cells)) (sym e) (All-push (AtomFits cells) atoms a h.fit one.fits);
       }
 
@@ -77,5 +77,5 @@ module _ (p : CoreProgram) (cells : List NetCell) (b : List ℕ) where
   atoms-all items ask i atoms le e h = subst (λ (xs : Constraint). AreAtomsOf p cells b xs atoms) (take_all i items le ∙ e) h
 
 -- the tokens from one on fit
-pub next-fits : (p : CoreProgram) (b : List ℕ) (items : Constraint) (i : ℕ) (x : ℕ × Token) → i < length items → AskFits p b (drop i items) → TokenFits p b (get_or items i x) × AskFits p b (drop (i + 1) items)
-next-fits p b items i x lt h = subst (AskFits p b) (drop_more items i x lt) h
+pub next-fits : (p : CoreProgram) (b : List ℕ) (items : Constraint) (i : ℕ) (x : ℕ × Token) → i < length items → ConstraintFits p b (drop i items) → TokenFits p b (get_or items i x) × ConstraintFits p b (drop (i + 1) items)
+next-fits p b items i x lt h = subst (ConstraintFits p b) (drop_more items i x lt) h

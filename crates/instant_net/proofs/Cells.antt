@@ -14,7 +14,7 @@ use Rattle.token_system.specs.declared.name.CellName.TheVariants.{Declared, Loca
 use Rattle.token_system.specs.Names.{name_cmp}
 use Rattle.agent_core.specs.declared.node.CellDecl.{CellDecl}
 use Rattle.agent_core.specs.Programs.{CoreProgram}
-use Rattle.agent_core.specs.Facts.{IsProgram}
+use Rattle.agent_core.specs.WellFormed.{IsWellFormed}
 use Rattle.agent_core.specs.Names.{Names}
 use Rattle.agent_laws.specs.Ways.{new_cell, cell_named}
 use Rattle.instant_net.specs.declared.parts.NetCell.{NetCell}
@@ -153,7 +153,7 @@ declared-each ls zero = All-nil (λ q. ((k : ℕ) × (q ≡ Declared k)) ⊎ Con
 declared-each ls (suc n) = All-push (λ q. ((k : ℕ) × (q ≡ Declared k)) ⊎ Contains (flat_map names_of ls) q) (declared_names n) (Declared n) (declared-each ls n) (inl (n, refl))
 
 -- the row of the declared cells and of the local ones that leaves speak of
-pub cells-are : (p : CoreProgram) (table : List ℕ) (ls : List Leaf) (cells : List NetCell) (words : ℕ) (names : List CellName) → IsProgram p → IsRow p table cells words → cell_names cells ≡ declared_names p.declared ++ names
+pub cells-are : (p : CoreProgram) (table : List ℕ) (ls : List Leaf) (cells : List NetCell) (words : ℕ) (names : List CellName) → IsWellFormed p → IsRow p table cells words → cell_names cells ≡ declared_names p.declared ++ names
     → All (IsSpokenBy p ls) names → IsStrictlySortedBy name_cmp names → length cells < 4294967296 → AreCellsFor p table ls cells
 cells-are p table ls cells words names is row same spoken order few =
     let P : CellName → Type 0 = λ q. ((k : ℕ) × (q ≡ Declared k)) ⊎ Contains (flat_map names_of ls) q in

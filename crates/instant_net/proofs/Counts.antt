@@ -9,7 +9,7 @@ use Rattle.agent_core.proofs.RestTests.{node_found}
 use Rattle.agent_core.specs.declared.node.Closure.{Closure}
 use Rattle.agent_core.specs.Agents.{Agent, Constraint, Skip, Tell, Then, Else, Par, New, Hence, Next, agent_of, agent_at}
 use Rattle.agent_core.specs.Programs.{CoreProgram}
-use Rattle.agent_core.specs.Facts.{IsProgram}
+use Rattle.agent_core.specs.WellFormed.{IsWellFormed}
 use Rattle.agent_core.specs.Listing.{size}
 use Rattle.agent_core.specs.Leaves as core
 use Rattle.agent_core.proofs.Places.{size-within, node_of_listing}
@@ -34,8 +34,8 @@ count-size (Next a) = omega arith
 pub leaf_count-is : (t : ℕ) (a : Agent) (n : ℕ) (b : List ℕ) (path : List core.Guard) → length (core.leaves_of t a n b path) ≡ leaf_count a
 leaf_count-is t Skip n b path = refl
 leaf_count-is t (Tell c) n b path = refl
-leaf_count-is t (Then c a) n b path = leaf_count-is t a (suc n) b (path ++ core.Asks b c ∷ [])
-leaf_count-is t (Else c a) n b path = leaf_count-is t a (suc n) b (path ++ core.Denies b c ∷ [])
+leaf_count-is t (Then c a) n b path = leaf_count-is t a (suc n) b (path ++ core.Positive b c ∷ [])
+leaf_count-is t (Else c a) n b path = leaf_count-is t a (suc n) b (path ++ core.Negative b c ∷ [])
 leaf_count-is t (Par l r) n b path =
     let x = leaf_count-is t l (suc n) b path in
     let y = leaf_count-is t r (suc n + size l) b path in
@@ -45,7 +45,7 @@ leaf_count-is t (Hence a) n b path = refl
 leaf_count-is t (Next a) n b path = refl
 
 -- a node has few leaves
-pub few_leaves : (p : CoreProgram) → IsProgram p → (n : ℕ) → n < length p.nodes → leaf_count (agent_at p.nodes n) ≤ 4096
+pub few_leaves : (p : CoreProgram) → IsWellFormed p → (n : ℕ) → n < length p.nodes → leaf_count (agent_at p.nodes n) ≤ 4096
 few_leaves p is n lt =
     let at = placed p is n lt in
     let within = (size-within p.nodes n at.0 (agent_at p.nodes n) at.1.place).1 in
@@ -54,7 +54,7 @@ few_leaves p is n lt =
     omega arith
 
 -- the leaves of a node are those of its parts
-pub count-node : (p : CoreProgram) → IsProgram p → (n : ℕ) (node : Node) → slice_get p.nodes n ≡ Some node → leaf_count (agent_of (agent_at p.nodes) node) ≡ leaf_count (agent_at p.nodes n)
+pub count-node : (p : CoreProgram) → IsWellFormed p → (n : ℕ) (node : Node) → slice_get p.nodes n ≡ Some node → leaf_count (agent_of (agent_at p.nodes) node) ≡ leaf_count (agent_at p.nodes n)
 count-node p is n node found = ap leaf_count (sym (node_of_listing p.nodes is.tree n node found).tree)
 
 -- so many leaves have been counted of the first i roots
@@ -116,7 +116,7 @@ pub record HasPart (p : CoreProgram) (n m : ℕ) : Type 0 where
   pub above : n < m
   pub inside : m < length p.nodes
 
-module _ (p : CoreProgram) (is : IsProgram p) (n : ℕ) where
+module _ (p : CoreProgram) (is : IsWellFormed p) (n : ℕ) where
   part-of : (d m : ℕ) → IsPart p.nodes n d m → HasPart p n m
   part-of d m h = record { above = h.above; inside = h.inside }
 

@@ -16,9 +16,9 @@ use Rattle.agent_core.specs.declared.node.Node.{Node}
 use Rattle.agent_core.specs.declared.node.Node.TheVariants as nodes
 use Rattle.agent_core.specs.Agents.{Agent, Constraint, Skip, Tell, Then, Else, Par, New, Hence, Next, agent_of, agent_at}
 use Rattle.agent_core.specs.Programs.{CoreProgram}
-use Rattle.agent_core.specs.Facts.{IsProgram}
+use Rattle.agent_core.specs.WellFormed.{IsWellFormed}
 use Rattle.agent_core.specs.Names.{IsClosure, name_of, depth_of}
-use Rattle.agent_core.specs.Scope.{TokenFits, AskFits, AgentFits}
+use Rattle.agent_core.specs.Scope.{TokenFits, ConstraintFits, AgentFits}
 use Rattle.agent_core.proofs.Scopes.{scoped_fits, AgentFits-under}
 use Rattle.agent_laws.specs.Laws.{AreClosures}
 use Rattle.instant_net.specs.declared.parts.NetCell.{NetCell}
@@ -95,7 +95,7 @@ module _ (p : CoreProgram) (t : ℕ) where
   agent-kept before after keeps (Hence a) b h = tt
   agent-kept before after keeps (Next a) b h = tt
 
-  module _ (is : IsProgram p) (n : ℕ) (b : List ℕ) where
+  module _ (is : IsWellFormed p) (n : ℕ) (b : List ℕ) where
     -- what a node needs, its constraint and its parts need
     pub parts-covered : (node : Node) → slice_get p.nodes n ≡ Some node → (names : List CellName) → AgentCovered p t names (agent_at p.nodes n) b → AgentCovered p t names (agent_of (agent_at p.nodes) node) b
     parts-covered node found names h = subst (λ (a : Agent). AgentCovered p t names a b) (agent-is p is n node found) h
@@ -160,11 +160,11 @@ module _ (p : CoreProgram) (t : ℕ) where
       roots-kept names (cell_names cells) (λ q had. subst (λ xs. Contains xs q) (sym e) (Contains-append_right (declared_names p.declared) names q had)) roots h
 
   -- where all cells are declared ones, no name is needed
-  module _ (is : IsProgram p) (none : length p.cells ≡ p.declared) (names : List CellName) where
+  module _ (is : IsWellFormed p) (none : length p.cells ≡ p.declared) (names : List CellName) where
     token-declared : (b : List ℕ) (x : ℕ × Token) → TokenFits p b x → TokenCovered p b names x
     token-declared b x f le = let lt = slice_get_within p.cells x.0 f.decl f.found in absurd (omega arith)
 
-    ask-declared : (b : List ℕ) (c : Constraint) → AskFits p b c → AskCovered p b names c
+    ask-declared : (b : List ℕ) (c : Constraint) → ConstraintFits p b c → AskCovered p b names c
     ask-declared b [] h = All-nil (TokenCovered p b names)
     ask-declared b (x ∷ c) h = All-cons (TokenCovered p b names) x c (token-declared b x h.0) (ask-declared b c h.1)
 

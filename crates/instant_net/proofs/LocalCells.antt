@@ -10,7 +10,7 @@ use Rattle.token_system.specs.declared.name.CellName.TheVariants.{Declared, Loca
 use Rattle.agent_core.specs.declared.node.Node.{Node}
 use Rattle.agent_core.specs.declared.node.Node.TheVariants as nodes
 use Rattle.agent_core.specs.Agents.{Agent, Constraint, Skip, Tell, Then, Else, Par, New, Hence, Next, agent_of, agent_at}
-use Rattle.agent_core.specs.Facts.{IsProgram, cell_of, count_up}
+use Rattle.agent_core.specs.WellFormed.{IsWellFormed, cell_of, count_up}
 use Rattle.agent_core.specs.Listing.{size, listing}
 use Rattle.agent_core.specs.Names.{Names, depth_of, local_name, name_of, new_of}
 use Rattle.agent_core.specs.Programs.{CoreProgram}
@@ -72,7 +72,7 @@ news-at all n around (New cell a) d h e =
 news-at all n around (Hence a) d h e = news-at all (suc n) around a d ((Place-goes_down all).hence_body n around a h) e
 news-at all n around (Next a) d h e = news-at all (suc n) around a d ((Place-goes_down all).next_body n around a h) e
 
-module _ (p : CoreProgram) (is : IsProgram p) where
+module _ (p : CoreProgram) (is : IsWellFormed p) where
   abbrev news : List Local
   news = news_of 0 0 (agent_at p.nodes 0)
 
@@ -148,7 +148,7 @@ fitting_cell p b x f = slice_get_within p.cells x.0 f.decl f.found
 abbrev pub HasOnly : Node → ℕ → Type 0
 HasOnly d m = ((c : Constraint) × (d ≡ nodes.Then c m)) ⊎ (((c : Constraint) × (d ≡ nodes.Else c m)) ⊎ ((d ≡ nodes.Hence m) ⊎ (d ≡ nodes.Next m)))
 
-module _ (p : CoreProgram) (is : IsProgram p) (n : ℕ) where
+module _ (p : CoreProgram) (is : IsWellFormed p) (n : ℕ) where
   abbrev NewsBelow : ℕ → ℕ → List Local
   NewsBelow d m = news_of m d (agent_at p.nodes m)
 

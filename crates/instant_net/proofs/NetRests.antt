@@ -7,10 +7,10 @@ use Rattle.agent_core.specs.declared.node.CellDecl.{CellDecl}
 use Rattle.agent_core.specs.declared.node.Closure.{Closure}
 use Rattle.agent_core.specs.Agents.{Agent, Constraint, Skip, Tell, Then, Else, Par, New, Hence, Next, agent_at}
 use Rattle.agent_core.specs.Programs.{CoreProgram}
-use Rattle.agent_core.specs.Facts.{IsProgram}
+use Rattle.agent_core.specs.WellFormed.{IsWellFormed}
 use Rattle.agent_core.specs.Listing.{size}
 use Rattle.agent_core.specs.Names.{IsClosure, name_of}
-use Rattle.agent_core.specs.Scope.{AskFits, AgentFits}
+use Rattle.agent_core.specs.Scope.{ConstraintFits, AgentFits}
 use Rattle.agent_core.specs.Rests as rests
 use Rattle.agent_core.specs.Strata.{Each}
 use Rattle.agent_core.specs.Leaves as core
@@ -23,11 +23,11 @@ use Rattle.agent_laws.proofs.Instance.{GuardFits}
 use Rattle.instant_net.specs.NamedLeaves.{Named, Guard, Leaf, told_by, holds, entails, free, asked, leaf_rests, leaves_rest}
 use Rattle.instant_net.specs.Nets.{Flat, net_leaves}
 use Rattle.instant_net.specs.Opened.{IsNetOf}
-use Rattle.instant_net.specs.Programs.{token_named, ask_named, guard_named, kind_named, leaf_named}
+use Rattle.instant_net.specs.Programs.{token_named, constraint_named, guard_named, kind_named, leaf_named}
 
 -- what a leaf names fits
 abbrev pub LeafFits : CoreProgram → core.Leaf → Type 0
-LeafFits p l = AskFits p l.births (core.tells l.agent) × Each (GuardFits p) l.path
+LeafFits p l = ConstraintFits p l.births (core.tells l.agent) × Each (GuardFits p) l.path
 
 leaves-fit : (p : CoreProgram) (t : ℕ) (a : Agent) (n : ℕ) (b : List ℕ) (path : List core.Guard) → AgentFits p t a b → Each (GuardFits p) path → Each (LeafFits p) (core.leaves_of t a n b path)
 leaves-fit p t Skip n b path f g = ((tt, g), tt)
@@ -36,11 +36,11 @@ leaves-fit p t (Hence a) n b path f g = ((tt, g), tt)
 leaves-fit p t (Next a) n b path f g = ((tt, g), tt)
 leaves-fit p t (Par l r) n b path f g =
     Each-append (LeafFits p) (core.leaves_of t l (suc n) b path) (core.leaves_of t r (suc n + size l) b path) (leaves-fit p t l (suc n) b path f.0 g) (leaves-fit p t r (suc n + size l) b path f.1 g)
-leaves-fit p t (Then c a) n b path f g = leaves-fit p t a (suc n) b (path ++ core.Asks b c ∷ []) f.1 (Each-append (GuardFits p) path (core.Asks b c ∷ []) g (f.0, tt))
-leaves-fit p t (Else c a) n b path f g = leaves-fit p t a (suc n) b (path ++ core.Denies b c ∷ []) f.1 (Each-append (GuardFits p) path (core.Denies b c ∷ []) g (f.0, tt))
+leaves-fit p t (Then c a) n b path f g = leaves-fit p t a (suc n) b (path ++ core.Positive b c ∷ []) f.1 (Each-append (GuardFits p) path (core.Positive b c ∷ []) g (f.0, tt))
+leaves-fit p t (Else c a) n b path f g = leaves-fit p t a (suc n) b (path ++ core.Negative b c ∷ []) f.1 (Each-append (GuardFits p) path (core.Negative b c ∷ []) g (f.0, tt))
 leaves-fit p t (New cell a) n b path f g = leaves-fit p t a (suc n) (b ++ t ∷ []) path f g
 
-pub roots-fit : (p : CoreProgram) → IsProgram p → (rs : List Closure) → AreClosures p rs → (t : ℕ) → Each (LeafFits p) (core.leaves p rs t)
+pub roots-fit : (p : CoreProgram) → IsWellFormed p → (rs : List Closure) → AreClosures p rs → (t : ℕ) → Each (LeafFits p) (core.leaves p rs t)
 roots-fit p is rs own t = go rs (all_each (λ r. IsClosure p r.node r.births) rs own)
   where
     go : (rs : List Closure) → Each (λ r. IsClosure p r.node r.births) rs → Each (LeafFits p) (core.leaves p rs t)
@@ -50,28 +50,28 @@ roots-fit p is rs own t = go rs (all_each (λ r. IsClosure p r.node r.births) rs
         (leaves-fit p t (agent_at p.nodes r.node) r.node r.births [] (closure_fits p is r.node r.births h.0 t) tt) (go rs h.1)
 
 module _ (p : CoreProgram) where
-  pub entails-named : (b : List ℕ) (c : Constraint) (u : Valuation) → AskFits p b c → entails u (ask_named p b c) ≡ rests.entails p b u c
+  pub entails-named : (b : List ℕ) (c : Constraint) (u : Valuation) → ConstraintFits p b c → entails u (constraint_named p b c) ≡ rests.entails p b u c
   entails-named b [] u f = refl
   entails-named b (x ∷ c) u f =
       let d : CellDecl = f.0.decl in
-      subst (λ (o : Option CellDecl). list_all (holds u) (token_named p b x.0 x.1 o ++ ask_named p b c) ≡ (rests.holds_at o p b u x.0 x.1 && rests.entails p b u c)) (sym f.0.found)
+      subst (λ (o : Option CellDecl). list_all (holds u) (token_named p b x.0 x.1 o ++ constraint_named p b c) ≡ (rests.holds_at o p b u x.0 x.1 && rests.entails p b u c)) (sym f.0.found)
       (ap (λ (r : Bool). store_entails u (name_of p b x.0) d.cell x.1 && r) (entails-named b c u f.1))
 
   free-named : (v : Valuation) (path : List core.Guard) → Each (GuardFits p) path → list_all (free v) (map (guard_named p) path) ≡ list_all (core_rests.free p v) path
   free-named v [] f = refl
-  free-named v (core.Asks b c ∷ path) f = free-named v path f.1
-  free-named v (core.Denies b c ∷ path) f =
+  free-named v (core.Positive b c ∷ path) f = free-named v path f.1
+  free-named v (core.Negative b c ∷ path) f =
       ap (λ (r : Bool). not r && list_all (free v) (map (guard_named p) path)) (entails-named b c v f.0)
       ∙ ap (λ (r : Bool). not (rests.entails p b v c) && r) (free-named v path f.1)
 
   asked-named : (u : Valuation) (path : List core.Guard) → Each (GuardFits p) path → list_all (asked u) (map (guard_named p) path) ≡ list_all (core_rests.asked p u) path
   asked-named u [] f = refl
-  asked-named u (core.Asks b c ∷ path) f =
+  asked-named u (core.Positive b c ∷ path) f =
       ap (λ (r : Bool). r && list_all (asked u) (map (guard_named p) path)) (entails-named b c u f.0)
       ∙ ap (λ (r : Bool). rests.entails p b u c && r) (asked-named u path f.1)
-  asked-named u (core.Denies b c ∷ path) f = asked-named u path f.1
+  asked-named u (core.Negative b c ∷ path) f = asked-named u path f.1
 
-  told-named : (n : ℕ) (b : List ℕ) (a : Agent) (u : Valuation) → AskFits p b (core.tells a) → entails u (told_by (kind_named p n b a)) ≡ rests.entails p b u (core.tells a)
+  told-named : (n : ℕ) (b : List ℕ) (a : Agent) (u : Valuation) → ConstraintFits p b (core.tells a) → entails u (told_by (kind_named p n b a)) ≡ rests.entails p b u (core.tells a)
   told-named n b (Tell c) u f = entails-named b c u f
   told-named n b Skip u f = refl
   told-named n b (Then c a) u f = refl

@@ -9,9 +9,9 @@ use Rattle.agent_core.specs.declared.node.CellDecl.{CellDecl}
 use Rattle.agent_core.specs.declared.node.Closure.{Closure}
 use Rattle.agent_core.specs.Agents.{Agent, Constraint, Skip, Tell, Then, Else, Par, New, Hence, Next, agent_at}
 use Rattle.agent_core.specs.Programs.{CoreProgram}
-use Rattle.agent_core.specs.Facts.{IsProgram}
+use Rattle.agent_core.specs.WellFormed.{IsWellFormed}
 use Rattle.agent_core.specs.Names.{IsClosure, name_of, local_name, new_of}
-use Rattle.agent_core.specs.Scope.{TokenFits, AskFits}
+use Rattle.agent_core.specs.Scope.{TokenFits, ConstraintFits}
 use Rattle.agent_core.specs.Strata.{Each, Stratifies}
 use Rattle.agent_core.specs.Leaves as core
 use Rattle.agent_core.proofs.NewNodes.{new_of-found}
@@ -30,7 +30,7 @@ use Rattle.instant_net.specs.NamedLeaves.{Named, Guard, Leaf, told_by}
 use Rattle.instant_net.specs.Nets.{Flat, named_at, named, named_guard, named_kind, named_leaf, net_leaves, atoms_of}
 use Rattle.instant_net.specs.Opened.{IsCellOf, IsNetOf}
 use Rattle.instant_net.specs.Outputs.{IsStratified}
-use Rattle.instant_net.specs.Programs.{token_named, ask_named, guard_named, kind_named, leaf_named}
+use Rattle.instant_net.specs.Programs.{token_named, constraint_named, guard_named, kind_named, leaf_named}
 use Rattle.instant_net.proofs.Lists.{same-elements}
 use Rattle.instant_net.proofs.NetPaths.{above-in_path}
 use Rattle.instant_net.proofs.NetRests.{LeafFits, roots-fit}
@@ -52,7 +52,7 @@ told-named cells kinds.Idle x h = h
 told-named cells (kinds.StartsHence c) x h = h
 told-named cells (kinds.StartsNext c) x h = h
 
-module _ (p : CoreProgram) (is : IsProgram p) where
+module _ (p : CoreProgram) (is : IsWellFormed p) where
   name-cell : (b : List ℕ) (x : ℕ × Token) → TokenFits p b x → cell_named p (name_of p b x.0) ≡ x.0
   name-cell b x f = go (nat_lt x.0 p.declared) refl
     where
@@ -61,15 +61,15 @@ module _ (p : CoreProgram) (is : IsProgram p) where
       go false e = ap new_cell (new_of-found p is x.0 f.decl e f.found).1
 
   -- what holds of each cell of a constraint holds of the cell of each name
-  asked-each : (P : ℕ → Type 0) (b : List ℕ) (c : Constraint) (z : Named) → AskFits p b c → Each (λ x. P x.0) c → Contains (ask_named p b c) z → P (cell_named p z.name)
+  asked-each : (P : ℕ → Type 0) (b : List ℕ) (c : Constraint) (z : Named) → ConstraintFits p b c → Each (λ x. P x.0) c → Contains (constraint_named p b c) z → P (cell_named p z.name)
   asked-each P b [] z f h (k, lt, e) = absurd (omega arith)
   asked-each P b (x ∷ c) z f h at =
       let d : CellDecl = f.0.decl in
       let one : Named = record { name = name_of p b x.0; cell = d.cell; token = x.1 } in
       let own : token_named p b x.0 x.1 (slice_get p.cells x.0) ≡ one ∷ [] = ap (λ (o : Option CellDecl). token_named p b x.0 x.1 o) f.0.found in
-      go one refl (λ k lt s. asked-each P b c z f.1 h.1 (k, lt, s)) (subst (λ (ys : List Named). Contains (ys ++ ask_named p b c) z) own at)
+      go one refl (λ k lt s. asked-each P b c z f.1 h.1 (k, lt, s)) (subst (λ (ys : List Named). Contains (ys ++ constraint_named p b c) z) own at)
     where
-      go : (one : Named) → one.name ≡ name_of p b x.0 → ((k : ℕ) → k < length (ask_named p b c) → slice_index_or (ask_named p b c) k z ≡ z → P (cell_named p z.name)) → Contains (one ∷ ask_named p b c) z → P (cell_named p z.name)
+      go : (one : Named) → one.name ≡ name_of p b x.0 → ((k : ℕ) → k < length (constraint_named p b c) → slice_index_or (constraint_named p b c) k z ≡ z → P (cell_named p z.name)) → Contains (one ∷ constraint_named p b c) z → P (cell_named p z.name)
       go one e more (zero, lt, s) = subst P (sym (ap (λ (y : Named). cell_named p y.name) (sym s) ∙ ap (cell_named p) e ∙ name-cell b x f.0)) h.0
       go one e more (suc k, lt, s) = more k (omega arith) s
 
@@ -79,8 +79,8 @@ module _ (p : CoreProgram) (is : IsProgram p) where
     Allows k g = (z : Named) → Contains g.ask z → slice_index table (cell_named p z.name) + (if g.strict then 1 else 0) ≤ k
 
     guard-allows : (k : ℕ) (g : core.Guard) → GuardFits p g → Under table k g → Allows k (guard_named p g)
-    guard-allows k (core.Asks b c) f h z at = asked-each (λ n. slice_index table n + 0 ≤ k) b c z f (Each-map (λ x. slice_index table x.0 ≤ k) (λ x. slice_index table x.0 + 0 ≤ k) (λ x l. omega arith) c h) at
-    guard-allows k (core.Denies b c) f h z at = asked-each (λ n. slice_index table n + 1 ≤ k) b c z f (Each-map (λ x. slice_index table x.0 < k) (λ x. slice_index table x.0 + 1 ≤ k) (λ x l. omega arith) c h) at
+    guard-allows k (core.Positive b c) f h z at = asked-each (λ n. slice_index table n + 0 ≤ k) b c z f (Each-map (λ x. slice_index table x.0 ≤ k) (λ x. slice_index table x.0 + 0 ≤ k) (λ x l. omega arith) c h) at
+    guard-allows k (core.Negative b c) f h z at = asked-each (λ n. slice_index table n + 1 ≤ k) b c z f (Each-map (λ x. slice_index table x.0 < k) (λ x. slice_index table x.0 + 1 ≤ k) (λ x l. omega arith) c h) at
 
     path-allows : (k : ℕ) (path : List core.Guard) → Each (GuardFits p) path → Each (Under table k) path → All (Allows k) (map (guard_named p) path)
     path-allows k [] f h i d lt = absurd (omega arith)
@@ -93,7 +93,7 @@ module _ (p : CoreProgram) (is : IsProgram p) where
         Each-map (λ y. Each (Under table (slice_index table y.0)) l.path) (λ y. All (Allows (slice_index table y.0)) (map (guard_named p) l.path)) (λ y u. path-allows (slice_index table y.0) l.path f.1 u) (core.tells l.agent) h in
         asked-each (λ n. All (Allows (slice_index table n)) (map (guard_named p) l.path)) l.births (core.tells l.agent) x f.0 each (told l.node l.births l.agent at)
       where
-        told : (n : ℕ) (b : List ℕ) (a : Agent) → Contains (told_by (kind_named p n b a)) x → Contains (ask_named p b (core.tells a)) x
+        told : (n : ℕ) (b : List ℕ) (a : Agent) → Contains (told_by (kind_named p n b a)) x → Contains (constraint_named p b (core.tells a)) x
         told n b (Tell c) h = h
         told n b Skip h = h
         told n b (Then c a) h = h

@@ -5,7 +5,7 @@ use Rattle.std.proofs.lemmas.List.Elements.{All-weaker}
 use Rattle.token_system.specs.declared.name.CellName.TheVariants.{Declared}
 use Rattle.agent_core.specs.declared.node.Closure.{Closure}
 use Rattle.agent_core.specs.Programs.{CoreProgram}
-use Rattle.agent_core.specs.Facts.{IsProgram}
+use Rattle.agent_core.specs.WellFormed.{IsWellFormed}
 use Rattle.agent_laws.specs.Laws.{AreClosures}
 use Rattle.instant_net.specs.declared.locals.Local.{Local}
 use Rattle.instant_net.specs.declared.parts.NetCell.{NetCell}
@@ -32,7 +32,7 @@ cells-named p table ls cells locals h all = record {
   locals_are = all;
 }
 
-module _ (p : CoreProgram) (table : List ℕ) (rs : List Closure) (t strata : ℕ) (cells : List NetCell) (guards : List NetGuard) (leaves : List NetLeaf) (is : IsProgram p) (own : AreClosures p rs) (long : length table ≡ length p.cells)
+module _ (p : CoreProgram) (table : List ℕ) (rs : List Closure) (t strata : ℕ) (cells : List NetCell) (guards : List NetGuard) (leaves : List NetLeaf) (is : IsWellFormed p) (own : AreClosures p rs) (long : length table ≡ length p.cells)
     (for_them : AreCellsFor p table (root_leaves p rs t) cells) (h : Grown cells None [] 0 0 guards leaves (root_occurrences p rs t) (root_leaves p rs t)) (top : strata ≡ strata_of table) where
   abbrev net : Flat
   net = record { instant = t; strata = strata; cells = cells; guards = guards; leaves = leaves }

@@ -5,12 +5,12 @@ use Rattle.agent_core.specs.declared.node.Node.{Node}
 use Rattle.agent_core.specs.declared.node.Node.TheVariants as nodes
 use Rattle.agent_core.specs.Agents.{Agent, Constraint, agent_of, agent_at}
 use Rattle.agent_core.specs.Programs.{CoreProgram}
-use Rattle.agent_core.specs.Facts.{IsProgram}
+use Rattle.agent_core.specs.WellFormed.{IsWellFormed}
 use Rattle.agent_core.specs.Listing.{size}
-use Rattle.agent_core.specs.Leaves.{Guard, Asks, Denies, Leaf, leaves_of}
+use Rattle.agent_core.specs.Leaves.{Guard, Positive, Negative, Leaf, leaves_of}
 use Rattle.agent_core.proofs.Places.{IsNodeAt, node_of_listing}
 
-module _ (p : CoreProgram) (is : IsProgram p) (n : ℕ) where
+module _ (p : CoreProgram) (is : IsWellFormed p) (n : ℕ) where
   facts : (node : Node) → slice_get p.nodes n ≡ Some node → IsNodeAt p.nodes n node
   facts node found = node_of_listing p.nodes is.tree n node found
 
@@ -25,15 +25,15 @@ module _ (p : CoreProgram) (is : IsProgram p) (n : ℕ) where
   body-behind node m (inr e) found = (facts (nodes.Next m) (found ∙ ap Some e)).follow
 
   module _ (t : ℕ) (b : List ℕ) (path : List Guard) where
-    pub then-below : (c : Constraint) (m : ℕ) → slice_get p.nodes n ≡ Some (nodes.Then c m) → below t b path n ≡ below t b (path ++ Asks b c ∷ []) m
+    pub then-below : (c : Constraint) (m : ℕ) → slice_get p.nodes n ≡ Some (nodes.Then c m) → below t b path n ≡ below t b (path ++ Positive b c ∷ []) m
     then-below c m found =
         let f = facts (nodes.Then c m) found in
-        ap (λ (a : Agent). leaves_of t a n b path) f.tree ∙ ap (λ (k : ℕ). leaves_of t (agent_at p.nodes m) k b (path ++ Asks b c ∷ [])) (sym f.follow)
+        ap (λ (a : Agent). leaves_of t a n b path) f.tree ∙ ap (λ (k : ℕ). leaves_of t (agent_at p.nodes m) k b (path ++ Positive b c ∷ [])) (sym f.follow)
 
-    pub else-below : (c : Constraint) (m : ℕ) → slice_get p.nodes n ≡ Some (nodes.Else c m) → below t b path n ≡ below t b (path ++ Denies b c ∷ []) m
+    pub else-below : (c : Constraint) (m : ℕ) → slice_get p.nodes n ≡ Some (nodes.Else c m) → below t b path n ≡ below t b (path ++ Negative b c ∷ []) m
     else-below c m found =
         let f = facts (nodes.Else c m) found in
-        ap (λ (a : Agent). leaves_of t a n b path) f.tree ∙ ap (λ (k : ℕ). leaves_of t (agent_at p.nodes m) k b (path ++ Denies b c ∷ [])) (sym f.follow)
+        ap (λ (a : Agent). leaves_of t a n b path) f.tree ∙ ap (λ (k : ℕ). leaves_of t (agent_at p.nodes m) k b (path ++ Negative b c ∷ [])) (sym f.follow)
 
     pub new-below : (cell m : ℕ) → slice_get p.nodes n ≡ Some (nodes.New cell m) → below t b path n ≡ below t (b ++ t ∷ []) path m
     new-below cell m found =

@@ -16,13 +16,13 @@ use Rattle.agent_core.specs.declared.node.Node.{Node}
 use Rattle.agent_core.specs.declared.node.Node.TheVariants as nodes
 use Rattle.agent_core.specs.Agents.{Agent, Constraint, Skip, Tell, Then, Else, Par, New, Hence, Next, agent_at}
 use Rattle.agent_core.specs.Programs.{CoreProgram}
-use Rattle.agent_core.specs.Facts.{IsProgram}
+use Rattle.agent_core.specs.WellFormed.{IsWellFormed}
 use Rattle.agent_core.specs.Listing.{size}
 use Rattle.agent_core.specs.Leaves as core
 use Rattle.agent_core.specs.Names.{Names, name_of, local_name, new_of}
 use Rattle.agent_core.specs.Scope.{TokenFits}
 use Rattle.instant_net.specs.NamedLeaves.{Named, Guard, told_by, names_of}
-use Rattle.instant_net.specs.Programs.{token_named, ask_named, guard_named, leaf_named, root_leaves}
+use Rattle.instant_net.specs.Programs.{token_named, constraint_named, guard_named, leaf_named, root_leaves}
 use Rattle.instant_net.specs.Collecting.{IsLocal, IsSpokenBy, IsAskedBy, AddsAsked, AddsSpoken}
 use Rattle.instant_net.proofs.NodeLeaves.{below, agent-is, then-below, else-below, new-below, par-below}
 use Rattle.instant_net.proofs.Lists.{Contains-map}
@@ -32,17 +32,17 @@ ask_names xs = map (λ x. x.name) xs
 
 -- ONE CONSTRAINT
 
-ask-speaks : (p : CoreProgram) (b : List ℕ) (ask : Constraint) (i : ℕ) (x : ℕ × Token) → i < length ask → TokenFits p b (get_or ask i x) → Contains (ask_names (ask_named p b ask)) (name_of p b (get_or ask i x).0)
-ask-speaks p b ask i x lt f = Contains-map (λ (y : Named). y.name) (ask_named p b ask) (record { name = name_of p b (get_or ask i x).0; cell = f.decl.cell; token = (get_or ask i x).1 }) (go ask i lt f)
+ask-speaks : (p : CoreProgram) (b : List ℕ) (ask : Constraint) (i : ℕ) (x : ℕ × Token) → i < length ask → TokenFits p b (get_or ask i x) → Contains (ask_names (constraint_named p b ask)) (name_of p b (get_or ask i x).0)
+ask-speaks p b ask i x lt f = Contains-map (λ (y : Named). y.name) (constraint_named p b ask) (record { name = name_of p b (get_or ask i x).0; cell = f.decl.cell; token = (get_or ask i x).1 }) (go ask i lt f)
   where
     first : (y : ℕ × Token) (d : CellDecl) (rest : List Named) → slice_get p.cells y.0 ≡ Some d → Contains (token_named p b y.0 y.1 (slice_get p.cells y.0) ++ rest) (record { name = name_of p b y.0; cell = d.cell; token = y.1 })
     first y d rest e =
         subst (λ (o : Option CellDecl). Contains (token_named p b y.0 y.1 o ++ rest) (record { name = name_of p b y.0; cell = d.cell; token = y.1 })) (sym e) (0, omega arith, refl)
 
-    go : (ask : Constraint) (i : ℕ) → i < length ask → (f : TokenFits p b (get_or ask i x)) → Contains (ask_named p b ask) (record { name = name_of p b (get_or ask i x).0; cell = f.decl.cell; token = (get_or ask i x).1 })
+    go : (ask : Constraint) (i : ℕ) → i < length ask → (f : TokenFits p b (get_or ask i x)) → Contains (constraint_named p b ask) (record { name = name_of p b (get_or ask i x).0; cell = f.decl.cell; token = (get_or ask i x).1 })
     go [] i lt f = absurd (omega arith)
-    go (y ∷ ask) zero lt f = first y f.decl (ask_named p b ask) f.found
-    go (y ∷ ask) (suc i) lt f = Contains-append_right (token_named p b y.0 y.1 (slice_get p.cells y.0)) (ask_named p b ask) _ (go ask i (omega arith) f)
+    go (y ∷ ask) zero lt f = first y f.decl (constraint_named p b ask) f.found
+    go (y ∷ ask) (suc i) lt f = Contains-append_right (token_named p b y.0 y.1 (slice_get p.cells y.0)) (constraint_named p b ask) _ (go ask i (omega arith) f)
 
 local-name : (p : CoreProgram) (b : List ℕ) (x : ℕ × Token) → TokenFits p b x → p.declared ≤ x.0 → IsLocal p (name_of p b x.0)
 local-name p b x f le = go (nat_lt x.0 p.declared) refl f.named
@@ -63,8 +63,8 @@ module _ (p : CoreProgram) (b : List ℕ) where
       let here : IsAskedBy p b ask n = record {
         local = subst (IsLocal p) (sym is) (local-name p b (get_or items i x) f le);
         asked =
-            subst (λ (c : Constraint). Contains (ask_names (ask_named p b c)) n) same
-            (subst (Contains (ask_names (ask_named p b items))) (sym is) (ask-speaks p b items i x lt f));
+            subst (λ (c : Constraint). Contains (ask_names (constraint_named p b c)) n) same
+            (subst (Contains (ask_names (constraint_named p b items))) (sym is) (ask-speaks p b items i x lt f));
       } in
       subst (All P) (sym e) (All-insert_key name_cmp n P mid h (inr here))
 
@@ -106,9 +106,9 @@ path-spoken p t (Hence a) n b path q h = one-path p (core.leaf n (Hence a) b pat
 path-spoken p t (Next a) n b path q h = one-path p (core.leaf n (Next a) b path) q h
 path-spoken p t (New cell a) n b path q h = path-spoken p t a (suc n) (b ++ t ∷ []) path q h
 path-spoken p t (Then c a) n b path q h =
-    path-spoken p t a (suc n) b (path ++ core.Asks b c ∷ []) q (subst (λ xs. Contains xs q) (sym (path_names-append p path (core.Asks b c))) (Contains-append_left (path_names p path) (ask_names (ask_named p b c)) q h))
+    path-spoken p t a (suc n) b (path ++ core.Positive b c ∷ []) q (subst (λ xs. Contains xs q) (sym (path_names-append p path (core.Positive b c))) (Contains-append_left (path_names p path) (ask_names (constraint_named p b c)) q h))
 path-spoken p t (Else c a) n b path q h =
-    path-spoken p t a (suc n) b (path ++ core.Denies b c ∷ []) q (subst (λ xs. Contains xs q) (sym (path_names-append p path (core.Denies b c))) (Contains-append_left (path_names p path) (ask_names (ask_named p b c)) q h))
+    path-spoken p t a (suc n) b (path ++ core.Negative b c ∷ []) q (subst (λ xs. Contains xs q) (sym (path_names-append p path (core.Negative b c))) (Contains-append_left (path_names p path) (ask_names (constraint_named p b c)) q h))
 path-spoken p t (Par l r) n b path q h =
     let left : List core.Leaf = core.leaves_of t l (suc n) b path in
     let right : List core.Leaf = core.leaves_of t r (suc n + size l) b path in
@@ -116,7 +116,7 @@ path-spoken p t (Par l r) n b path q h =
 
 -- NODES
 
-module _ (p : CoreProgram) (is : IsProgram p) (t n : ℕ) (b : List ℕ) where
+module _ (p : CoreProgram) (is : IsWellFormed p) (t n : ℕ) (b : List ℕ) where
   abbrev Spoken : ℕ → List ℕ → CellName → Type 0
   Spoken m bs q = (path : List core.Guard) → IsSpokenBy p (map (leaf_named p) (core.leaves_of t (agent_at p.nodes m) m bs path)) q
 
@@ -134,7 +134,7 @@ module _ (p : CoreProgram) (is : IsProgram p) (t n : ℕ) (b : List ℕ) where
       })
 
   -- names below a part, after those of a constraint above it
-  spoken-guard : (c : Constraint) (m : ℕ) (mk : core.Guard) → (guard_named p mk).ask ≡ ask_named p b c → ((path : List core.Guard) → below p is n t b path n ≡ below p is n t b (path ++ mk ∷ []) m)
+  spoken-guard : (c : Constraint) (m : ℕ) (mk : core.Guard) → (guard_named p mk).ask ≡ constraint_named p b c → ((path : List core.Guard) → below p is n t b path n ≡ below p is n t b (path ++ mk ∷ []) m)
       → (before mid after : List CellName) → AddsAsked p b c before mid → AddsSpoken p t m b mid after → AddsSpoken p t n b before after
   spoken-guard c m mk asks same before mid after h h' = All-weaker (λ q. Contains mid q ⊎ Spoken m b q) (λ q. Contains before q ⊎ Spoken n b q) go after h'
     where
@@ -156,8 +156,8 @@ module _ (p : CoreProgram) (is : IsProgram p) (t n : ℕ) (b : List ℕ) where
 
   pub spoken-body : (d : Node) (c : Constraint) (m : ℕ) → (d ≡ nodes.Then c m) ⊎ (d ≡ nodes.Else c m) → slice_get p.nodes n ≡ Some d
       → (before mid after : List CellName) → AddsAsked p b c before mid → AddsSpoken p t m b mid after → AddsSpoken p t n b before after
-  spoken-body d c m (inl e) found = spoken-guard c m (core.Asks b c) refl (λ path. then-below p is n t b path c m (found ∙ ap Some e))
-  spoken-body d c m (inr e) found = spoken-guard c m (core.Denies b c) refl (λ path. else-below p is n t b path c m (found ∙ ap Some e))
+  spoken-body d c m (inl e) found = spoken-guard c m (core.Positive b c) refl (λ path. then-below p is n t b path c m (found ∙ ap Some e))
+  spoken-body d c m (inr e) found = spoken-guard c m (core.Negative b c) refl (λ path. else-below p is n t b path c m (found ∙ ap Some e))
 
   pub spoken-new : (cell m : ℕ) (inner : List ℕ) → slice_get p.nodes n ≡ Some (nodes.New cell m) → inner ≡ b ++ t ∷ [] → (before after : List CellName) → AddsSpoken p t m inner before after → AddsSpoken p t n b before after
   spoken-new cell m inner found e before after h = All-weaker (λ q. Contains before q ⊎ Spoken m inner q) (λ q. Contains before q ⊎ Spoken n b q) go after h

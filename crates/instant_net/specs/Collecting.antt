@@ -5,13 +5,13 @@ use Rattle.token_system.specs.declared.name.CellName.TheVariants.{Declared, Loca
 use Rattle.agent_core.specs.declared.node.CellDecl.{CellDecl}
 use Rattle.agent_core.specs.Agents.{Constraint, agent_at}
 use Rattle.agent_core.specs.Programs.{CoreProgram}
-use Rattle.agent_core.specs.Facts.{IsProgram}
+use Rattle.agent_core.specs.WellFormed.{IsWellFormed}
 use Rattle.agent_core.specs.Leaves as core
 use Rattle.agent_core.specs.Names.{Names}
 use Rattle.instant_net.specs.declared.parts.NetCell.{NetCell}
 use Rattle.instant_net.specs.NamedLeaves.{Leaf, names_of}
 use Rattle.instant_net.specs.Opened.{IsCellOf, AreInOrder}
-use Rattle.instant_net.specs.Programs.{ask_named, leaf_named}
+use Rattle.instant_net.specs.Programs.{constraint_named, leaf_named}
 use Rattle.instant_net.specs.Words.{AreLaidOut, hows}
 
 -- the name is that of a local cell of the program
@@ -30,7 +30,7 @@ pub record IsSpokenBy (p : CoreProgram) (ls : List Leaf) (n : CellName) : Type 0
 -- the name is that of a local cell, and the constraint speaks of it
 pub record IsAskedBy (p : CoreProgram) (b : List ℕ) (ask : Constraint) (n : CellName) : Type 0 where
   pub local : IsLocal p n
-  pub asked : Contains (map (λ x. x.name) (ask_named p b ask)) n
+  pub asked : Contains (map (λ x. x.name) (constraint_named p b ask)) n
 
 -- each name is one from before, or the constraint speaks of it
 abbrev pub AddsAsked : CoreProgram → List ℕ → Constraint → List CellName → List CellName → Type 0
@@ -58,7 +58,7 @@ pub record IsRow (p : CoreProgram) (table : List ℕ) (cells : List NetCell) (wo
 
 -- the cells are the declared ones, and local ones that these leaves speak of, in order; and their words can be numbered
 pub record AreCellsFor (p : CoreProgram) (table : List ℕ) (ls : List Leaf) (cells : List NetCell) : Type 0 where
-  pub program : IsProgram p
+  pub program : IsWellFormed p
   pub each : All (IsCellOf p table) cells
   pub order : AreInOrder cells
   pub laid_out : AreLaidOut 0 cells

@@ -3,7 +3,7 @@ use Rattle.std.specs.Prelude.{ℕ, List, [], ◌∷◌, ◌++◌, flat_map}
 use Rattle.agent_core.specs.declared.node.Closure.{Closure}
 use Rattle.agent_core.specs.Agents.{Agent, Skip, Tell, Then, Else, Par, New, Hence, Next, agent_at}
 use Rattle.agent_core.specs.Programs.{CoreProgram}
-use Rattle.agent_core.specs.Leaves.{Guard, Asks, Denies}
+use Rattle.agent_core.specs.Leaves.{Guard, Positive, Negative}
 
 -- an occurrence of a then or an else: its ask as a guard, and the guards above it, outermost first
 pub record Occurrence (G : Type 0) : Type 0 where
@@ -20,8 +20,8 @@ occurrences_of t (Tell c) b path = []
 occurrences_of t (Hence a) b path = []
 occurrences_of t (Next a) b path = []
 occurrences_of t (Par l r) b path = occurrences_of t l b path ++ occurrences_of t r b path
-occurrences_of t (Then c a) b path = occurrence (Asks b c) path ∷ occurrences_of t a b (path ++ Asks b c ∷ [])
-occurrences_of t (Else c a) b path = occurrence (Denies b c) path ∷ occurrences_of t a b (path ++ Denies b c ∷ [])
+occurrences_of t (Then c a) b path = occurrence (Positive b c) path ∷ occurrences_of t a b (path ++ Positive b c ∷ [])
+occurrences_of t (Else c a) b path = occurrence (Negative b c) path ∷ occurrences_of t a b (path ++ Negative b c ∷ [])
 occurrences_of t (New cell a) b path = occurrences_of t a (b ++ t ∷ []) path
 
 -- the occurrences in the trees of these roots at instant t

@@ -7,7 +7,7 @@ use Rattle.token_system.specs.Names.{name_cmp}
 use Rattle.agent_core.specs.declared.node.Closure.{Closure}
 use Rattle.agent_core.specs.declared.node.CellDecl.{CellDecl}
 use Rattle.agent_core.specs.Programs.{CoreProgram}
-use Rattle.agent_core.specs.Facts.{IsProgram}
+use Rattle.agent_core.specs.WellFormed.{IsWellFormed}
 use Rattle.agent_core.specs.Names.{Names}
 use Rattle.agent_laws.specs.Laws.{AreClosures}
 use Rattle.agent_laws.specs.Ways.{cell_named}
@@ -55,7 +55,7 @@ strata_of (n ∷ table) = max (suc n) (strata_of table)
 
 -- the net of these roots at instant t, where the table has a number for each cell
 pub record IsNetOf (p : CoreProgram) (table : List ℕ) (rs : List Closure) (t : ℕ) (net : Flat) : Type 0 where
-  pub program : IsProgram p
+  pub program : IsWellFormed p
   pub roots : AreClosures p rs
   pub long : length table ≡ length p.cells
   pub whole : IsWhole net

@@ -16,17 +16,17 @@ token_named p b cell t None = []
 token_named p b cell t (Some d) = record { name = name_of p b cell; cell = d.cell; token = t } ∷ []
 
 -- the constraint under births, with its cells by name
-abbrev pub ask_named : CoreProgram → List ℕ → Constraint → List Named
-ask_named p b [] = []
-ask_named p b (x ∷ ask) = token_named p b x.0 x.1 (slice_get p.cells x.0) ++ ask_named p b ask
+abbrev pub constraint_named : CoreProgram → List ℕ → Constraint → List Named
+constraint_named p b [] = []
+constraint_named p b (x ∷ ask) = token_named p b x.0 x.1 (slice_get p.cells x.0) ++ constraint_named p b ask
 
 abbrev pub guard_named : CoreProgram → core.Guard → Guard
-guard_named p (core.Asks b ask) = record { strict = false; ask = ask_named p b ask }
-guard_named p (core.Denies b ask) = record { strict = true; ask = ask_named p b ask }
+guard_named p (core.Positive b ask) = record { strict = false; ask = constraint_named p b ask }
+guard_named p (core.Negative b ask) = record { strict = true; ask = constraint_named p b ask }
 
 -- what the agent of node n is as a leaf: a hence or a next starts its body, which has the number behind its own, under its births
 abbrev pub kind_named : CoreProgram → ℕ → List ℕ → Agent → Kind
-kind_named p n b (Tell told) = Tells (ask_named p b told)
+kind_named p n b (Tell told) = Tells (constraint_named p b told)
 kind_named p n b (Hence a) = StartsHence (closure (suc n) b)
 kind_named p n b (Next a) = StartsNext (closure (suc n) b)
 kind_named p n b _ = Idle

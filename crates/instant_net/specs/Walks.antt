@@ -18,7 +18,7 @@ use Rattle.instant_net.specs.NamedLeaves.{Guard, Leaf}
 use Rattle.instant_net.specs.Occurrences.{Occurrence, occurrences_of}
 use Rattle.instant_net.specs.Opened.{AreInOrder}
 use Rattle.instant_net.specs.Nets.{AtomFits, named_at, named, named_guard, named_kind, atoms_of}
-use Rattle.instant_net.specs.Programs.{token_named, ask_named, guard_named, leaf_named, occurrence_named}
+use Rattle.instant_net.specs.Programs.{token_named, constraint_named, guard_named, leaf_named, occurrence_named}
 
 -- the cell is the one that its name says
 pub record IsNamed (p : CoreProgram) (c : NetCell) : Type 0 where
@@ -28,7 +28,7 @@ pub record IsNamed (p : CoreProgram) (c : NetCell) : Type 0 where
 
 -- the atoms are those of the constraint under the births
 pub record AreAtomsOf (p : CoreProgram) (cells : List NetCell) (b : List ℕ) (ask : Constraint) (atoms : List Atom) : Type 0 where
-  pub same : named cells atoms ≡ ask_named p b ask
+  pub same : named cells atoms ≡ constraint_named p b ask
   pub fit : All (AtomFits cells) atoms
 
 -- the place is that of a cell with this name

@@ -2,12 +2,12 @@
 ghost use Rattle.std.specs.Prelude.{◌≡◌, ℕ, ◌++◌, ◌∷◌, [], All, IfOk, length};
 ghost use Rattle.token_system.specs.Names.{name_cmp};
 ghost use Rattle.agent_core.specs.declared.node.CellDecl.{CellDecl};
-ghost use Rattle.agent_core.specs.Facts.{IsProgram};
+ghost use Rattle.agent_core.specs.WellFormed.{IsWellFormed};
 ghost use Rattle.agent_core.specs.Names as names;
 ghost use Rattle.agent_core.specs.Names.{IsClosure};
 ghost use Rattle.std.specs.List.Sorted.{IsStrictlySortedBy};
 ghost use Rattle.instant_net.specs.Words.{kind_hows};
-ghost use Rattle.agent_core.specs.Scope.{AskFits};
+ghost use Rattle.agent_core.specs.Scope.{ConstraintFits};
 ghost use Rattle.agent_laws.specs.Laws.{AreClosures};
 ghost use Rattle.agent_laws.specs.Ways.{cell_named};
 ghost use Rattle.instant_net.specs.Programs.{root_leaves};
@@ -41,7 +41,7 @@ impl Collector<'_> {
         names: &mut BTreeSet<CellName>,
     ) -> Result<(), Memory>
         requires locals { AreLocalsOf self.now.program.now self.now.locals.now }
-        requires fits { AskFits self.now.program.now births.now ask.now }
+        requires fits { ConstraintFits self.now.program.now births.now ask.now }
         ensures spoken { IfOk result (λ _. AddsAsked self.now.program.now births.now ask.now names.old.keys names.new.keys) }
         ensures covered { IfOk result (λ _. CoversAsk self.now.program.now births.now ask.now names.old.keys names.new.keys) }
     {
@@ -185,7 +185,7 @@ impl Row {
         requires empty { self.old.cells.items ≡ [] }
         ensures row { IfOk result (λ _. IsRow program.now levels.now self.new.cells.items self.new.words) }
         ensures names { IfOk result (λ _. cell_names self.new.cells.items ≡ declared_names program.now.declared) }
-        ensures program { IsProgram program.now }
+        ensures program { IsWellFormed program.now }
     {
         for cell in 0..program.declared() {
             self.add(program, levels, CellName::Declared(cell), cell)?;

@@ -2,7 +2,7 @@
 ghost use Rattle.std.specs.Prelude.{◌≡◌, ◌≤◌, IfOk, length, All};
 ghost use Rattle.std.specs.List.Sorted.{IsStrictlySortedBy};
 ghost use Rattle.agent_core.specs.Closures.{closure_cmp};
-ghost use Rattle.agent_core.specs.Facts.{IsProgram};
+ghost use Rattle.agent_core.specs.WellFormed.{IsWellFormed};
 ghost use Rattle.agent_laws.specs.Laws.{AreClosures};
 
 mod fronts;
@@ -41,7 +41,7 @@ fn over_cells(
     declared: u32,
     nodes: Vec<Node>,
 ) -> Result<Program, Fail>
-    ensures { IfOk result IsProgram }
+    ensures { IfOk result IsWellFormed }
 {
     let mut cells = Vec::new(alloc);
     for cell in kinds {
@@ -69,7 +69,7 @@ fn rising_levels(alloc: Global, program: &Program) -> Result<Levels, Fail>
 
 /// The root.
 fn first_roots(alloc: Global, program: &Program) -> Result<Vec<Closure>, Fail>
-    requires { IsProgram program.now }
+    requires { IsWellFormed program.now }
     ensures closures { IfOk result (λ roots. AreClosures program.now roots.items) }
     ensures sorted { IfOk result (λ roots. IsStrictlySortedBy closure_cmp roots.items) }
     ensures few { IfOk result (λ roots. length roots.items ≤ 131072) }

@@ -4,7 +4,7 @@ ghost use Rattle.token_system.specs.Names.{name_cmp};
 ghost use Rattle.token_system.specs.declared.name.CellName.TheVariants.{Local as LocalName};
 ghost use Rattle.agent_core.specs.Agents.{agent_at};
 ghost use Rattle.agent_core.specs.Names.{IsClosure};
-ghost use Rattle.agent_core.specs.Scope.{TokenFits, AskFits};
+ghost use Rattle.agent_core.specs.Scope.{TokenFits, ConstraintFits};
 ghost use Rattle.agent_laws.specs.Laws.{AreClosures};
 ghost use Rattle.instant_net.specs.declared.parts.NetGuard.{NetGuard as GuardValue};
 ghost use Rattle.instant_net.specs.Opened.{AreInOrder};
@@ -128,7 +128,7 @@ impl Walk<'_> {
     /// The tokens of the constraint under the births.
     fn atoms(&self, births: &[u32], ask: &Constraint) -> Result<Atoms, Memory>
         requires named { AreNamed self.now.program.now self.now.locals.now self.now.cells.now }
-        requires fits { AskFits self.now.program.now births.now ask.now }
+        requires fits { ConstraintFits self.now.program.now births.now ask.now }
         requires covered { AskCovered self.now.program.now births.now (cell_names self.now.cells.now) ask.now }
         ensures { IfOk result (AreAtomsOf self.now.program.now self.now.cells.now births.now ask.now) }
     {

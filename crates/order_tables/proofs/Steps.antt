@@ -11,7 +11,7 @@ use Rattle.order_tables.proofs.Tables.{ranks, ranks-meet, ranks-below, good_arcs
 
 -- an arc to read past the end of a list by
 abbrev pub nil : Arc
-nil = record { low = 0; high = 0; strict = false }
+nil = record { low = 0; high = 0; negative = false }
 
 -- what holds of the number put, and of the others, holds of each
 set_each : (P : ℕ → ℕ → Type 0) (t : List ℕ) (h v : ℕ) → h < length t → P h v → ((k : ℕ) → k < length t → P k (slice_index t k)) → (k : ℕ) → k < length (set t h v) → P k (slice_index (set t h v) k)

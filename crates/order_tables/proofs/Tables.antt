@@ -1,4 +1,4 @@
--- There is a table exactly where no strict arc closes a circle.
+-- There is a table exactly where no negative arc closes a circle.
 use Rattle.std.proofs.Common.{◌≡◌, ◌⊎◌, inl, inr, ℕ, zero, suc, ◌+◌, ◌-◌, ◌<◌, ◌≤◌, Bool, true, false, List, length, map, refl, sym, ap, subst, arith}
 use Rattle.std.specs.Prelude.{IsTrue, All, Contains, slice_index, if◌then◌else◌}
 use Rattle.std.specs.List.{range_with_len}
@@ -8,9 +8,9 @@ use Rattle.order_tables.specs.Arcs.{Meets, Within, HasTable, IsLeast, Chain, Rea
 use Rattle.order_tables.proofs.Lists.{all_at, all_by}
 use Rattle.order_tables.proofs.Spread.{true_false, reaches, reaches-to, reaches-on, chain-reaches}
 
--- the arc is strict, and its high end reaches its low one
+-- the arc is negative, and its high end reaches its low one
 abbrev pub IsBad : List Arc → Arc → Type 0
-IsBad arcs e = (e.strict ≡ true) × Reaches arcs e.high e.low
+IsBad arcs e = (e.negative ≡ true) × Reaches arcs e.high e.low
 
 -- CHAINS
 
@@ -20,7 +20,7 @@ chain-le arcs table meets zero a b chain = let e = ap (slice_index table) chain 
 chain-le arcs table meets (suc n) a b (e, chain, i, is) =
     let before = chain-le arcs table meets n a e.low chain in
     let at : slice_index table e.high ≡ slice_index table b = ap (slice_index table) is in
-    let step = weak (slice_index table e.low) (slice_index table e.high) e.strict (all_at (Meets table) arcs e meets i) in
+    let step = weak (slice_index table e.low) (slice_index table e.high) e.negative (all_at (Meets table) arcs e meets i) in
     omega arith
   where
     weak : (x y : ℕ) (s : Bool) → x + (if s then 1 else 0) ≤ y → x ≤ y
@@ -93,11 +93,11 @@ module _ (arcs : List Arc) (size : ℕ) (within : All (Within size) arcs) (good 
       let h = count-lt (λ y. false) (λ y. reaches arcs y x) (λ y h. absurd (true_false (sym h))) x refl (itself x) size lt in
       omega arith
 
-  not_back : (e : Arc) → Contains arcs e → e.strict ≡ true → (b : Bool) → reaches arcs e.high e.low ≡ b → b ≡ false
+  not_back : (e : Arc) → Contains arcs e → e.negative ≡ true → (b : Bool) → reaches arcs e.high e.low ≡ b → b ≡ false
   not_back e i s true eb = absurd (all_at (λ e. IsBad arcs e → ⊥) arcs e good i (s, reaches-to arcs e.high e.low eb))
   not_back e i s false eb = refl
 
-  rank-meets : (e : Arc) → Contains arcs e → (s : Bool) → e.strict ≡ s → rank e.low + (if s then 1 else 0) ≤ rank e.high
+  rank-meets : (e : Arc) → Contains arcs e → (s : Bool) → e.negative ≡ s → rank e.low + (if s then 1 else 0) ≤ rank e.high
   rank-meets e i false es =
       let h = count-le (λ y. reaches arcs y e.low) (λ y. reaches arcs y e.high) (λ y. reaches-on arcs y e i) size in
       omega arith
@@ -120,8 +120,8 @@ module _ (arcs : List Arc) (size : ℕ) (within : All (Within size) arcs) (good 
   pub ranks-meet : All (Meets ranks) arcs
   ranks-meet = all_by (Meets ranks) arcs (λ e i.
       let w = all_at (Within size) arcs e within i in
-      subst (λ (k : ℕ). k + (if e.strict then 1 else 0) ≤ slice_index ranks e.high) (sym (at_rank e.low w.0))
-      (subst (λ (k : ℕ). rank e.low + (if e.strict then 1 else 0) ≤ k) (sym (at_rank e.high w.1)) (rank-meets e i e.strict refl)))
+      subst (λ (k : ℕ). k + (if e.negative then 1 else 0) ≤ slice_index ranks e.high) (sym (at_rank e.low w.0))
+      (subst (λ (k : ℕ). rank e.low + (if e.negative then 1 else 0) ≤ k) (sym (at_rank e.high w.1)) (rank-meets e i e.negative refl)))
 
 -- where there is a table, no arc is bad
 pub good_arcs : (arcs : List Arc) → HasTable arcs → All (λ e. IsBad arcs e → ⊥) arcs

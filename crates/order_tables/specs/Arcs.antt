@@ -4,7 +4,7 @@ use Rattle.order_tables.specs.declared.arc.Arc.{Arc}
 
 -- what the arc asks of its high end
 abbrev pub needs : List ℕ → Arc → ℕ
-needs table a = slice_index table a.low + (if a.strict then 1 else 0)
+needs table a = slice_index table a.low + (if a.negative then 1 else 0)
 
 abbrev pub Meets : List ℕ → Arc → Type 0
 Meets table a = needs table a ≤ slice_index table a.high

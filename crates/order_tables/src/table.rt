@@ -11,7 +11,7 @@ fn raise(arc: Arc, table: &mut [u32]) -> bool
     requires few { length table.old < 2 ^ 31 }
     ensures { IsRaised arc table.old table.new result }
 {
-    let more: u32 = if arc.strict { 1 } else { 0 };
+    let more: u32 = if arc.negative { 1 } else { 0 };
     let least = table[arc.low as usize] + more;
     if least <= table[arc.high as usize] {
         return false;

@@ -19,8 +19,8 @@ use Rattle.residuals.proofs.Passing.{passed-map, passed-agree}
 
 module _ (p : CoreProgram) (w : Valuation) where
   allows-named : (g : core.Guard) → GuardFits p g → allows w (guard_named p g) ≡ core.allows p w g
-  allows-named (core.Asks b c) f = entails-named p b c w f
-  allows-named (core.Denies b c) f = ap not (entails-named p b c w f)
+  allows-named (core.Positive b c) f = entails-named p b c w f
+  allows-named (core.Negative b c) f = ap not (entails-named p b c w f)
 
   pub path-named : (path : List core.Guard) → Each (GuardFits p) path → list_all (allows w) (map (guard_named p) path) ≡ list_all (core.allows p w) path
   path-named [] f = refl

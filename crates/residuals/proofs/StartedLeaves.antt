@@ -11,7 +11,7 @@ use Rattle.agent_core.specs.declared.node.Closure.{Closure}
 use Rattle.agent_core.specs.declared.node.Node.{Node}
 use Rattle.agent_core.specs.Agents.{Agent, Skip, Tell, Then, Else, Par, New, Hence, Next, agent_at}
 use Rattle.agent_core.specs.Programs.{CoreProgram}
-use Rattle.agent_core.specs.Facts.{IsProgram}
+use Rattle.agent_core.specs.WellFormed.{IsWellFormed}
 use Rattle.agent_core.specs.Listing.{size, listing}
 use Rattle.agent_core.specs.Names.{IsClosure}
 use Rattle.agent_core.specs.Rests as rests
@@ -27,7 +27,7 @@ use Rattle.agent_laws.proofs.Eachs.{all_each}
 use Rattle.instant_net.specs.NamedLeaves.{Named, Kind, Idle, Tells, StartsHence, StartsNext, Leaf, allows, runs}
 use Rattle.instant_net.specs.Nets.{Flat}
 use Rattle.instant_net.specs.Opened.{IsNetOf}
-use Rattle.instant_net.specs.Programs.{ask_named, guard_named, leaf_named, root_leaves}
+use Rattle.instant_net.specs.Programs.{constraint_named, guard_named, leaf_named, root_leaves}
 use Rattle.instant_net.proofs.NetRests.{entails-named}
 use Rattle.residuals.specs.RootLists.{goes}
 use Rattle.residuals.specs.NextRoots.{hence_body, next_body, started_of, started_by}
@@ -116,16 +116,16 @@ module _ (p : CoreProgram) (w : Valuation) (t : ℕ) (S : Closure → Bool) (bod
   leaves-started : (a : Agent) (n : ℕ) (b : List ℕ) (path : List core.Guard) → AgentFits p t a b → StandsAt Node p.nodes n (listing n a)
       → started_of body (map (leaf_named p) (core.leaves_of t a n b path)) w ≡ beyond path (started p (w ∷ []) a n b t)
   leaves-started Skip n b path f at = started_of-one body w (leaf_named p (core.leaf n Skip b path)) None selects.idle
-  leaves-started (Tell c) n b path f at = started_of-one body w (leaf_named p (core.leaf n (Tell c) b path)) None (selects.tells (ask_named p b c))
+  leaves-started (Tell c) n b path f at = started_of-one body w (leaf_named p (core.leaf n (Tell c) b path)) None (selects.tells (constraint_named p b c))
   leaves-started (Hence a) n b path f at = starter path (StartsHence (closure (suc n) b)) (closure (suc n) b) (selects.hence n b a (listed_tree p.nodes n (Hence a) at))
   leaves-started (Next a) n b path f at = starter path (StartsNext (closure (suc n) b)) (closure (suc n) b) (selects.next n b a (listed_tree p.nodes n (Next a) at))
   leaves-started (Then c a) n b path f at =
-      leaves-started a (suc n) b (path ++ core.Asks b c ∷ []) f.1 (stands-tail at)
-      ∙ ap (λ (r : Bool). cond r (filter S (started p (w ∷ []) a (suc n) b t)) []) (open-more path (core.Asks b c) (rests.entails p b w c) (entails-named p b c w f.0))
+      leaves-started a (suc n) b (path ++ core.Positive b c ∷ []) f.1 (stands-tail at)
+      ∙ ap (λ (r : Bool). cond r (filter S (started p (w ∷ []) a (suc n) b t)) []) (open-more path (core.Positive b c) (rests.entails p b w c) (entails-named p b c w f.0))
       ∙ keep_then S (is_open path) (rests.entails p b w c) (started p (w ∷ []) a (suc n) b t)
   leaves-started (Else c a) n b path f at =
-      leaves-started a (suc n) b (path ++ core.Denies b c ∷ []) f.1 (stands-tail at)
-      ∙ ap (λ (r : Bool). cond r (filter S (started p (w ∷ []) a (suc n) b t)) []) (open-more path (core.Denies b c) (not (rests.entails p b w c)) (ap not (entails-named p b c w f.0)))
+      leaves-started a (suc n) b (path ++ core.Negative b c ∷ []) f.1 (stands-tail at)
+      ∙ ap (λ (r : Bool). cond r (filter S (started p (w ∷ []) a (suc n) b t)) []) (open-more path (core.Negative b c) (not (rests.entails p b w c)) (ap not (entails-named p b c w f.0)))
       ∙ keep_else S (is_open path) (rests.entails p b w c) (started p (w ∷ []) a (suc n) b t)
   leaves-started (Par l r) n b path f at =
       let left : List core.Leaf = core.leaves_of t l (suc n) b path in
@@ -139,7 +139,7 @@ module _ (p : CoreProgram) (w : Valuation) (t : ℕ) (S : Closure → Bool) (bod
       ∙ keep_both S (is_open path) first second
   leaves-started (New cell a) n b path f at = leaves-started a (suc n) (b ++ t ∷ []) path f (stands-tail at)
 
-  roots-started : IsProgram p → (rs : List Closure) → Each (λ r. IsClosure p r.node r.births) rs → started_of body (root_leaves p rs t) w ≡ filter S (flat_map (starts p w t) rs)
+  roots-started : IsWellFormed p → (rs : List Closure) → Each (λ r. IsClosure p r.node r.births) rs → started_of body (root_leaves p rs t) w ≡ filter S (flat_map (starts p w t) rs)
   roots-started is [] own = refl
   roots-started is (r ∷ rs) own =
       let here : List core.Leaf = core.leaves_of t (agent_at p.nodes r.node) r.node r.births [] in

@@ -1,7 +1,7 @@
 ghost use Rattle.std.specs.Prelude.{◌≡◌, ℕ, List, ◌+◌, IfOk, length};
 ghost use Rattle.token_system.specs.Stores.{Valuation};
 ghost use Rattle.agent_core.specs.Closures as closures;
-ghost use Rattle.agent_core.specs.Facts.{IsProgram};
+ghost use Rattle.agent_core.specs.WellFormed.{IsWellFormed};
 ghost use Rattle.instant_net.specs.Opened.{IsNetOf};
 ghost use Rattle.residuals.specs.RootLists.{listed, AreRootsOf};
 
@@ -22,7 +22,7 @@ fn on(alloc: Global, cell: u32) -> Result<Constraint, Fail> {
 
 /// The program of these nodes over so many signals, of which the first so many are declared.
 fn over_signals(alloc: Global, count: u32, declared: u32, nodes: Vec<Node>) -> Result<Program, Fail>
-    ensures { IfOk result IsProgram }
+    ensures { IfOk result IsWellFormed }
 {
     let mut cells = Vec::new(alloc);
     for _ in 0..count {
@@ -58,7 +58,7 @@ fn net_at(
     roots: &Roots,
     t: u32,
 ) -> Result<Net, Fail>
-    requires program { IsProgram program.now }
+    requires program { IsWellFormed program.now }
     requires levels { length levels.now ≡ length program.now.cells }
     requires roots { (closed : List Valuation) × (length closed ≡ t) × AreRootsOf program.now (closures.roots program.now closed) roots.now }
     ensures { IfOk result (IsNetOf program.now levels.now (listed roots.now) t) }
@@ -78,7 +78,7 @@ fn after(
     roots: &Roots,
     t: u32,
 ) -> Result<Roots, Fail>
-    requires program { IsProgram program.now }
+    requires program { IsWellFormed program.now }
     requires levels { length levels.now ≡ length program.now.cells }
     requires roots { (closed : List Valuation) × (length closed ≡ t) × AreRootsOf program.now (closures.roots program.now closed) roots.now }
     ensures { IfOk result (λ next. (closed : List Valuation) × (length closed ≡ t + 1) × AreRootsOf program.now (closures.roots program.now closed) next) }
@@ -90,7 +90,7 @@ fn after(
 
 /// How many leaves of the first instant the store runs in which nothing is told, and how many the one after that leaf is told.
 fn ran_before_and_after(alloc: Global, program: &Program, leaf: u32) -> Result<(u64, u64), Fail>
-    requires { IsProgram program.now }
+    requires { IsWellFormed program.now }
 {
     let levels = flat_levels(alloc, program)?;
     let roots = first_roots(alloc)?;
@@ -105,7 +105,7 @@ fn ran_before_and_after(alloc: Global, program: &Program, leaf: u32) -> Result<(
 
 /// The roots of this instant, where no input tells anything.
 fn roots_at(alloc: Global, program: &Program, instant: u32) -> Result<Roots, Fail>
-    requires { IsProgram program.now }
+    requires { IsWellFormed program.now }
 {
     let levels = flat_levels(alloc, program)?;
     let mut roots = first_roots(alloc)?;
@@ -126,7 +126,7 @@ fn push_closure(text: &mut String, closure: &Closure) -> Result<(), Fail> {
 
 /// The roots of this instant in their order, as text.
 fn text_at(alloc: Global, program: &Program, instant: u32) -> Result<String, Fail>
-    requires { IsProgram program.now }
+    requires { IsWellFormed program.now }
 {
     let mut text = String::new(alloc);
     for closure in &roots_at(alloc, program, instant)?.list(alloc)? {
@@ -137,7 +137,7 @@ fn text_at(alloc: Global, program: &Program, instant: u32) -> Result<String, Fai
 
 /// `signal a; next a || hence next a`.
 fn next_beside_hence_next(alloc: Global) -> Result<Program, Fail>
-    ensures { IfOk result IsProgram }
+    ensures { IfOk result IsWellFormed }
 {
     let mut nodes = Vec::new(alloc);
     nodes.push(Node::Par { left: 1, right: 3 })?;

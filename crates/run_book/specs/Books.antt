@@ -2,7 +2,7 @@
 use Rattle.std.specs.Prelude.{◌≡◌, ℕ, ◌≤◌, List, [], ◌∷◌, ◌++◌, length, All}
 use Rattle.token_system.specs.Stores.{Valuation}
 use Rattle.agent_core.specs.Programs.{CoreProgram}
-use Rattle.agent_core.specs.Facts.{IsProgram}
+use Rattle.agent_core.specs.WellFormed.{IsWellFormed}
 use Rattle.agent_core.specs.Stores.{IsInput}
 use Rattle.agent_core.specs.Outputs.{IsRun}
 use Rattle.agent_core.specs.Closures as closures
@@ -26,7 +26,7 @@ pub record Keeps (b : BookView) (full : List Valuation) : Type 0 where
 
 -- what holds of every book
 pub record IsBook (b : BookView) : Type 0 where
-  pub program : IsProgram b.program
+  pub program : IsWellFormed b.program
   pub stratified : Stratifies b.program b.levels
   pub inputs : All (IsInput b.program) b.ins
   pub few : length b.ins ≤ 65536

@@ -5,7 +5,7 @@ use Rattle.token_system.specs.Stores.{Valuation}
 use Rattle.agent_core.specs.declared.node.Closure.{Closure}
 use Rattle.agent_core.specs.Agents.{Agent, Skip, Tell, Then, Else, Par, New, Hence, Next, agent_at}
 use Rattle.agent_core.specs.Programs.{CoreProgram}
-use Rattle.agent_core.specs.Facts.{IsProgram}
+use Rattle.agent_core.specs.WellFormed.{IsWellFormed}
 use Rattle.agent_core.specs.Names.{IsClosure}
 use Rattle.agent_core.specs.Scope.{AgentFits}
 use Rattle.agent_core.specs.Strata.{Each}
@@ -36,11 +36,11 @@ inside-fit p t (Tell c) b path f g = tt
 inside-fit p t (Hence a) b path f g = tt
 inside-fit p t (Next a) b path f g = tt
 inside-fit p t (Par l r) b path f g = Each-append (OccurrenceFits p) (occurrences_of t l b path) (occurrences_of t r b path) (inside-fit p t l b path f.0 g) (inside-fit p t r b path f.1 g)
-inside-fit p t (Then c a) b path f g = ((f.0, g), inside-fit p t a b (path ++ core.Asks b c ∷ []) f.1 (Each-append (GuardFits p) path (core.Asks b c ∷ []) g (f.0, tt)))
-inside-fit p t (Else c a) b path f g = ((f.0, g), inside-fit p t a b (path ++ core.Denies b c ∷ []) f.1 (Each-append (GuardFits p) path (core.Denies b c ∷ []) g (f.0, tt)))
+inside-fit p t (Then c a) b path f g = ((f.0, g), inside-fit p t a b (path ++ core.Positive b c ∷ []) f.1 (Each-append (GuardFits p) path (core.Positive b c ∷ []) g (f.0, tt)))
+inside-fit p t (Else c a) b path f g = ((f.0, g), inside-fit p t a b (path ++ core.Negative b c ∷ []) f.1 (Each-append (GuardFits p) path (core.Negative b c ∷ []) g (f.0, tt)))
 inside-fit p t (New cell a) b path f g = inside-fit p t a (b ++ t ∷ []) path f g
 
-occurrences-fit : (p : CoreProgram) → IsProgram p → (rs : List Closure) → AreClosures p rs → (t : ℕ) → Each (OccurrenceFits p) (occurrences p rs t)
+occurrences-fit : (p : CoreProgram) → IsWellFormed p → (rs : List Closure) → AreClosures p rs → (t : ℕ) → Each (OccurrenceFits p) (occurrences p rs t)
 occurrences-fit p is rs own t = go rs (all_each (λ r. IsClosure p r.node r.births) rs own)
   where
     go : (rs : List Closure) → Each (λ r. IsClosure p r.node r.births) rs → Each (OccurrenceFits p) (occurrences p rs t)
@@ -76,16 +76,16 @@ module _ (p : CoreProgram) (w : Valuation) where
   IsWayOf way test = (g : core.Guard) → GuardFits p g → fares way w (guard_named p g) ≡ test p w g
 
   confirmed-is : IsWayOf confirmed_way is_confirmed
-  confirmed-is (core.Asks b c) f = refl
-  confirmed-is (core.Denies b c) f = ap not (entails-named p b c w f)
+  confirmed-is (core.Positive b c) f = refl
+  confirmed-is (core.Negative b c) f = ap not (entails-named p b c w f)
 
   refuted-is : IsWayOf refuted_way is_refuted
-  refuted-is (core.Asks b c) f = refl
-  refuted-is (core.Denies b c) f = entails-named p b c w f
+  refuted-is (core.Positive b c) f = refl
+  refuted-is (core.Negative b c) f = entails-named p b c w f
 
   parked-is : IsWayOf parked_way is_parked
-  parked-is (core.Asks b c) f = ap not (entails-named p b c w f)
-  parked-is (core.Denies b c) f = refl
+  parked-is (core.Positive b c) f = ap not (entails-named p b c w f)
+  parked-is (core.Negative b c) f = refl
 
   counts-named : (way : Way) (test : CoreProgram → Valuation → core.Guard → Bool) → IsWayOf way test → (o : Occurrence core.Guard) → OccurrenceFits p o
       → counts way w (occurrence_named p o) ≡ (reports.reaches p w o && test p w o.guard)

@@ -6,7 +6,7 @@ use Rattle.agent_core.specs.declared.node.Closure.{Closure}
 use Rattle.agent_core.specs.Programs.{CoreProgram}
 use Rattle.agent_core.specs.Rests.{entails}
 use Rattle.agent_core.specs.Leaves as leaves
-use Rattle.agent_core.specs.Leaves.{Guard, Asks, Denies, allows}
+use Rattle.agent_core.specs.Leaves.{Guard, Positive, Negative, allows}
 use Rattle.instant_net.specs.Occurrences.{Occurrence, occurrences}
 use Rattle.run_report.specs.declared.counts.Report.{Report}
 
@@ -16,18 +16,18 @@ reaches p v o = list_all (allows p v) o.path
 
 -- an else whose ask the store does not entail
 abbrev pub is_confirmed : CoreProgram → Valuation → Guard → Bool
-is_confirmed p v (Asks b c) = false
-is_confirmed p v (Denies b c) = not (entails p b v c)
+is_confirmed p v (Positive b c) = false
+is_confirmed p v (Negative b c) = not (entails p b v c)
 
 -- an else whose ask the store entails
 abbrev pub is_refuted : CoreProgram → Valuation → Guard → Bool
-is_refuted p v (Asks b c) = false
-is_refuted p v (Denies b c) = entails p b v c
+is_refuted p v (Positive b c) = false
+is_refuted p v (Negative b c) = entails p b v c
 
 -- a then whose ask the store does not entail
 abbrev pub is_parked : CoreProgram → Valuation → Guard → Bool
-is_parked p v (Asks b c) = not (entails p b v c)
-is_parked p v (Denies b c) = false
+is_parked p v (Positive b c) = not (entails p b v c)
+is_parked p v (Negative b c) = false
 
 -- how many thens and elses in the trees of these roots the store reaches, of those that pass the test
 abbrev pub reached_of : (CoreProgram → Valuation → Guard → Bool) → CoreProgram → List Closure → ℕ → Valuation → ℕ

@@ -1,7 +1,7 @@
 ghost use Rattle.std.specs.Prelude.{◌≡◌, List, ◌+◌, ◌≤◌, IfOk, length};
 ghost use Rattle.token_system.specs.Stores.{Valuation};
 ghost use Rattle.agent_core.specs.Closures as closures;
-ghost use Rattle.agent_core.specs.Facts.{IsProgram};
+ghost use Rattle.agent_core.specs.WellFormed.{IsWellFormed};
 ghost use Rattle.instant_net.specs.Words.{AreWords};
 ghost use Rattle.residuals.specs.RootLists.{AreRootsOf};
 
@@ -22,7 +22,7 @@ fn on(alloc: Global, cell: u32) -> Result<Constraint, Fail> {
 
 /// The program of these nodes over the signals `a`, which is cell 0, and `b`, which is cell 1.
 fn over_two_signals(alloc: Global, nodes: Vec<Node>) -> Result<Program, Fail>
-    ensures { IfOk result IsProgram }
+    ensures { IfOk result IsWellFormed }
 {
     let mut cells = Vec::new(alloc);
     for letter in b"ab" {
@@ -72,7 +72,7 @@ fn report_after(
     t: u32,
     told: &[u32],
 ) -> Result<(Report, Roots), Fail>
-    requires program { IsProgram program.now }
+    requires program { IsWellFormed program.now }
     requires levels { length levels.now ≡ length program.now.cells }
     requires roots { (closed : List Valuation) × (length closed ≡ t) × AreRootsOf program.now (closures.roots program.now closed) roots.now }
     ensures { IfOk result (λ next. (closed : List Valuation) × (length closed ≡ t + 1) × AreRootsOf program.now (closures.roots program.now closed) next.1) }
@@ -90,7 +90,7 @@ fn report_after(
 
 /// The reports of the first instants, where these are the tells that each output runs.
 fn reports(alloc: Global, program: &Program, told: &[&[u32]]) -> Result<Vec<Report>, Fail>
-    requires program { IsProgram program.now }
+    requires program { IsWellFormed program.now }
     requires few { length told.now ≤ 100 }
 {
     let levels = flat_levels(alloc, program)?;

@@ -1,7 +1,7 @@
 ghost use Rattle.std.specs.Prelude.{◌≡◌, ◌≤◌, IfOk, length, All};
 ghost use Rattle.std.specs.List.Sorted.{IsStrictlySortedBy};
 ghost use Rattle.agent_core.specs.Closures.{closure_cmp};
-ghost use Rattle.agent_core.specs.Facts.{IsProgram};
+ghost use Rattle.agent_core.specs.WellFormed.{IsWellFormed};
 ghost use Rattle.agent_laws.specs.Laws.{AreClosures};
 ghost use Rattle.instant_net.specs.Words.{AreWords};
 
@@ -43,7 +43,7 @@ fn over_cells(
     declared: u32,
     nodes: Vec<Node>,
 ) -> Result<Program, Fail>
-    ensures { IfOk result IsProgram }
+    ensures { IfOk result IsWellFormed }
 {
     let mut cells = Vec::new(alloc);
     for cell in kinds {
@@ -60,7 +60,7 @@ fn over_cells(
 
 /// The program of these nodes over so many declared signals.
 fn over_signals(alloc: Global, count: u32, nodes: Vec<Node>) -> Result<Program, Fail>
-    ensures { IfOk result IsProgram }
+    ensures { IfOk result IsWellFormed }
 {
     let kinds = vec![in alloc; SIGNAL; count as usize]?;
     over_cells(alloc, &kinds, count, nodes)
@@ -79,7 +79,7 @@ fn rising_levels(alloc: Global, program: &Program) -> Result<Levels, Fail>
 
 /// The root.
 fn first_roots(alloc: Global, program: &Program) -> Result<Vec<Closure>, Fail>
-    requires { IsProgram program.now }
+    requires { IsWellFormed program.now }
     ensures closures { IfOk result (λ roots. AreClosures program.now roots.items) }
     ensures sorted { IfOk result (λ roots. IsStrictlySortedBy closure_cmp roots.items) }
     ensures few { IfOk result (λ roots. length roots.items ≤ 131072) }
@@ -94,7 +94,7 @@ fn first_roots(alloc: Global, program: &Program) -> Result<Vec<Closure>, Fail>
 
 /// The net of the first instant, and the words of which nothing is told.
 fn opened(alloc: Global, program: &Program) -> Result<(Net, Words), Fail>
-    requires { IsProgram program.now }
+    requires { IsWellFormed program.now }
     ensures { IfOk result (λ opened. AreWords opened.0.cells opened.1) }
 {
     let levels = rising_levels(alloc, program)?;
@@ -109,7 +109,7 @@ fn opened(alloc: Global, program: &Program) -> Result<(Net, Words), Fail>
 
 /// The store that the first instant ends in, where the input tells nothing.
 fn settled(alloc: Global, program: &Program) -> Result<Store, Fail>
-    requires { IsProgram program.now }
+    requires { IsWellFormed program.now }
 {
     let (net, mut words) = opened(alloc, program)?;
     settle(&net, &mut words, 0);

@@ -31,22 +31,22 @@ module _ (p : CoreProgram) where
   abbrev Arcs : List Arc → Type 0
   Arcs es = Each (Contains (arcs p)) es
 
-  further : (a b c : ℕ) (strict : Bool) → Contains (arcs p) (arc b c strict) → Reaches (arcs p) a b → Reaches (arcs p) a c
-  further a b c strict i r = (suc r.0, (arc b c strict, r.1, i, refl))
+  further : (a b c : ℕ) (negative : Bool) → Contains (arcs p) (arc b c negative) → Reaches (arcs p) a b → Reaches (arcs p) a c
+  further a b c negative i r = (suc r.0, (arc b c negative, r.1, i, refl))
 
-  -- an arc leads from the asked cell, as strict as the ask, and on to x
+  -- an arc leads from the asked cell, as negative as the ask, and on to x
   abbrev LeadsOn : Asked → ℕ → Type 0
-  LeadsOn g x = (y : ℕ) × Contains (arcs p) (arc g.cell y g.strict) × Reaches (arcs p) y x
+  LeadsOn g x = (y : ℕ) × Contains (arcs p) (arc g.cell y g.negative) × Reaches (arcs p) y x
 
   abbrev pub IsCarried : Edge → Type 0
-  IsCarried e = (y : ℕ) × Contains (arcs p) (arc e.guard.cell y e.guard.strict) × Reaches (arcs p) y e.told
+  IsCarried e = (y : ℕ) × Contains (arcs p) (arc e.guard.cell y e.guard.negative) × Reaches (arcs p) y e.told
 
   path_on : (n m : ℕ) (path : List Asked) → Contains (arcs p) (arc (cells + n) (cells + m) false) → Each (λ g. LeadsOn g (cells + n)) path → Each (λ g. LeadsOn g (cells + m)) path
   path_on n m path i h = each-map (λ g. LeadsOn g (cells + n)) (λ g. LeadsOn g (cells + m)) (λ g l. (l.0, l.1, further l.0 (cells + n) (cells + m) false i l.2)) path h
 
-  asked_on : (n m : ℕ) (strict : Bool) (c : Constraint) → Arcs (map (λ x. arc x.0 (cells + m) strict) c) → Each (λ g. LeadsOn g (cells + m)) (asked_by n strict c)
-  asked_on n m strict [] h = tt
-  asked_on n m strict (x ∷ c) h = ((cells + m, h.0, (0, refl)), asked_on n m strict c h.1)
+  asked_on : (n m : ℕ) (negative : Bool) (c : Constraint) → Arcs (map (λ x. arc x.0 (cells + m) negative) c) → Each (λ g. LeadsOn g (cells + m)) (asked_by n negative c)
+  asked_on n m negative [] h = tt
+  asked_on n m negative (x ∷ c) h = ((cells + m, h.0, (0, refl)), asked_on n m negative c h.1)
 
   one_told : (n d : ℕ) (path : List Asked) → Contains (arcs p) (arc (cells + n) d false) → Each (λ g. LeadsOn g (cells + n)) path → Each IsCarried (map (λ g. edge_of g n d) path)
   one_told n d [] i h = tt
@@ -84,7 +84,7 @@ module _ (p : CoreProgram) where
     -- a table that meets the arcs meets the edges
     pub arcs-meet_edges : (t : List ℕ) → All (Meets t) (arcs p) → Each (strata.Meets t) (edges p)
     arcs-meet_edges t meets = each-map IsCarried (strata.Meets t) (λ e l.
-        let first : Meets t (arc e.guard.cell l.0 e.guard.strict) = all_at (Meets t) (arcs p) (arc e.guard.cell l.0 e.guard.strict) meets l.1 in
+        let first : Meets t (arc e.guard.cell l.0 e.guard.negative) = all_at (Meets t) (arcs p) (arc e.guard.cell l.0 e.guard.negative) meets l.1 in
         let on = chain-le (arcs p) t meets l.2.0 l.0 e.told l.2.1 in
         omega arith)
         (edges p) edges-carried
@@ -98,7 +98,7 @@ module _ (p : CoreProgram) where
     edge_chain (suc n) a b (e, chain, i, is) =
         let before = edge_chain n a e.guard.cell chain in
         let l = in_each IsCarried (edges p) e edges-carried i in
-        subst (Reaches (arcs p) a) is (chains_join l.2.0 a l.0 e.told (further a e.guard.cell l.0 e.guard.strict l.1 before) l.2.1)
+        subst (Reaches (arcs p) a) is (chains_join l.2.0 a l.0 e.told (further a e.guard.cell l.0 e.guard.negative l.1 before) l.2.1)
 
     -- cells that edges join are joined by arcs
     pub edges-arcs : (a b : ℕ) → strata.Reaches (edges p) a b → Reaches (arcs p) a b

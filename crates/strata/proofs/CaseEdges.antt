@@ -4,18 +4,18 @@ use Rattle.std.specs.List.{range_with_len}
 use Rattle.agent_core.specs.Programs.{CoreProgram}
 use Rattle.agent_core.specs.Agents.{Agent, Constraint, Skip, Tell, Then, Else, Par, New, Hence, Next, agent_at}
 use Rattle.agent_core.specs.Listing.{size}
-use Rattle.agent_core.specs.Facts.{IsProgram}
+use Rattle.agent_core.specs.WellFormed.{IsWellFormed}
 use Rattle.agent_core.specs.Strata.{Asked, Edge, asked_by, agent_edges, edges, tells_of, cases_at, cases, In, Each}
 use Rattle.agent_core.proofs.ListingTrees.{listed_tree}
 use Rattle.strata.proofs.Members.{in_left, in_right, in_map, map_in, in_flat_map, flat_map_in, in_range, range_in, in_each, each-map, join}
 use Rattle.strata.proofs.Under.{Under, Under-goes_down, root_under, under, under-within, tells-at, edge_of, path_edge, asked_in}
 
 abbrev else_asked : ℕ → ℕ → Asked
-else_asked n cell = record { node = n; cell = cell; strict = true }
+else_asked n cell = record { node = n; cell = cell; negative = true }
 
 -- EACH CASE IS AN EDGE
 
-case_at : (p : CoreProgram) (n : ℕ) (locals : List ℕ) (a : Agent) → Under p n locals a → (e : Edge) → In e (cases_at n a) → In e (edges p) × (e.guard.strict ≡ true)
+case_at : (p : CoreProgram) (n : ℕ) (locals : List ℕ) (a : Agent) → Under p n locals a → (e : Edge) → In e (cases_at n a) → In e (edges p) × (e.guard.negative ≡ true)
 case_at p n locals Skip u e i = absurd i
 case_at p n locals (Tell c) u e i = absurd i
 case_at p n locals (Then c a) u e i = absurd i
@@ -29,9 +29,9 @@ case_at p n locals (Else c a) u e i =
     let g = map_in (λ g. edge_of (else_asked n g.0) t.0.0 t.0.1) e c t.2 in
     let asked : In (else_asked n g.0.0) v.path = in_right (else_asked n g.0.0) u.path (asked_by n true c) (asked_in n true c g.0.0 (in_map (λ y. y.0) g.0 c g.1)) in
     let edge = path_edge p (suc n) locals a v (else_asked n g.0.0) asked t.0 (subst (In t.0) (sym (tells-at p (suc n) locals a v)) t.1) in
-    (subst (λ (x : Edge). In x (edges p)) (sym g.2) edge, ap (λ (x : Edge). x.guard.strict) g.2)
+    (subst (λ (x : Edge). In x (edges p)) (sym g.2) edge, ap (λ (x : Edge). x.guard.negative) g.2)
 
-pub case-edge : (p : CoreProgram) → IsProgram p → (e : Edge) → In e (cases p) → In e (edges p) × (e.guard.strict ≡ true)
+pub case-edge : (p : CoreProgram) → IsWellFormed p → (e : Edge) → In e (cases p) → In e (edges p) × (e.guard.negative ≡ true)
 case-edge p is e i =
     let n = flat_map_in (λ n. cases_at n (agent_at p.nodes n)) e (range_with_len 0 (length p.nodes)) i in
     let lt = range_in 0 (length p.nodes) n.0 n.1 in
@@ -43,7 +43,7 @@ case-edge p is e i =
 module _ (p : CoreProgram) where
   -- where an else asks, it is a node of the program, and what is told below the agent is told below it
   abbrev ElseAbove : ℕ → Agent → Asked → Type 0
-  ElseAbove n a g = g.strict ≡ true → (c : Constraint) × (b : Agent) × (agent_at p.nodes g.node ≡ Else c b) × (g.node < length p.nodes) × In g.cell (map (λ x. x.0) c)
+  ElseAbove n a g = g.negative ≡ true → (c : Constraint) × (b : Agent) × (agent_at p.nodes g.node ≡ Else c b) × (g.node < length p.nodes) × In g.cell (map (λ x. x.0) c)
       × ((t : ℕ × ℕ) → In t (tells_of n a) → In t (tells_of (suc g.node) b))
 
   narrower : (n m : ℕ) (a b : Agent) (path : List Asked) → ((t : ℕ × ℕ) → In t (tells_of m b) → In t (tells_of n a)) → Each (ElseAbove n a) path → Each (ElseAbove m b) path
@@ -58,7 +58,7 @@ module _ (p : CoreProgram) where
   else_above n a all (x ∷ c) e lt sub = (λ s. (all, a, e, lt, sub x.0 (inl refl), λ t i. i), else_above n a all c e lt (λ y i. sub y (inr i)))
 
   abbrev IsCase : Edge → Type 0
-  IsCase e = e.guard.strict ≡ true → In e (cases p)
+  IsCase e = e.guard.negative ≡ true → In e (cases p)
 
   -- an else node with an asked cell and a told one
   makes_case : (n : ℕ) (c : Constraint) (b : Agent) (cell : ℕ) (t : ℕ × ℕ) → agent_at p.nodes n ≡ Else c b → n < length p.nodes → In cell (map (λ x. x.0) c) → In t (tells_of (suc n) b) → In (edge_of (else_asked n cell) t.0 t.1) (cases p)
@@ -75,7 +75,7 @@ module _ (p : CoreProgram) where
   one_cased n d a (g ∷ path) i h = (
     λ s.
         let e = h.0 s in
-        subst (λ (b : Bool). In (edge_of (record { node = g.node; cell = g.cell; strict = b }) n d) (cases p)) (sym s) (makes_case g.node e.0 e.1 g.cell (n, d) e.2 e.3 e.4 (e.5 (n, d) i)),
+        subst (λ (b : Bool). In (edge_of (record { node = g.node; cell = g.cell; negative = b }) n d) (cases p)) (sym s) (makes_case g.node e.0 e.1 g.cell (n, d) e.2 e.3 e.4 (e.5 (n, d) i)),
     one_cased n d a path i h.1,
   )
 
@@ -106,5 +106,5 @@ module _ (p : CoreProgram) where
   cased (Hence a) n locals u path h = cased a (suc n) locals ((Under-goes_down p).hence_body n locals a u) [] tt
   cased (Next a) n locals u path h = cased a (suc n) locals ((Under-goes_down p).next_body n locals a u) [] tt
 
-  pub edge-case : IsProgram p → (e : Edge) → In e (edges p) → e.guard.strict ≡ true → In e (cases p)
+  pub edge-case : IsWellFormed p → (e : Edge) → In e (edges p) → e.guard.negative ≡ true → In e (cases p)
   edge-case is e i = in_each IsCase (edges p) e (cased (agent_at p.nodes 0) 0 [] (root_under p is) [] tt) i

@@ -5,7 +5,7 @@ use Rattle.std.proofs.lemmas.List.FromFn.{length-map-range_with_len}
 use Rattle.agent_core.specs.Programs.{CoreProgram}
 use Rattle.agent_core.specs.Agents.{Agent, Constraint, Skip, Tell, Then, Else, Par, New, Hence, Next, agent_at}
 use Rattle.agent_core.specs.Listing.{size}
-use Rattle.agent_core.specs.Facts.{Scoped, IsProgram}
+use Rattle.agent_core.specs.WellFormed.{Scoped, IsWellFormed}
 use Rattle.agent_core.specs.Strata.{Asked, Edge, asked_by, agent_edges, edges, In, Each, Stratifies, HasNoTable}
 use Rattle.agent_core.specs.Strata as strata
 use Rattle.order_tables.specs.declared.arc.Arc.{Arc}
@@ -16,7 +16,7 @@ use Rattle.strata.proofs.Members.{in_map, map_in, join, each_all, all_each, in_c
 use Rattle.strata.proofs.Under.{edge_of, scope-inside}
 
 abbrev pub edge_arc : Edge → Arc
-edge_arc e = arc e.guard.cell e.told e.guard.strict
+edge_arc e = arc e.guard.cell e.told e.guard.negative
 
 abbrev pub edge_arcs : CoreProgram → List Arc
 edge_arcs p = map edge_arc (edges p)
@@ -47,9 +47,9 @@ pub edges-table : (p : CoreProgram) (t : List ℕ) → Stratifies p t → HasTab
 edges-table p t s = (t, each_all (Meets t) (edge_arcs p) (to_meets t (edges p) s.each))
 
 -- a told cell that reaches the cell that its else asks for leaves no table
-pub back-none : (p : CoreProgram) (e : Edge) → In e (edges p) → e.guard.strict ≡ true → strata.Reaches (edges p) e.told e.guard.cell → HasNoTable p
-back-none p e i strict r table s =
-    bad-none (edge_arcs p) (edge_arc e) (in_contains (edge_arc e) (edge_arcs p) (in_map edge_arc e (edges p) i)) (strict, (r.0, to_chain (edges p) r.0 e.told e.guard.cell r.1)) (edges-table p table s)
+pub back-none : (p : CoreProgram) (e : Edge) → In e (edges p) → e.guard.negative ≡ true → strata.Reaches (edges p) e.told e.guard.cell → HasNoTable p
+back-none p e i negative r table s =
+    bad-none (edge_arcs p) (edge_arc e) (in_contains (edge_arc e) (edge_arcs p) (in_map edge_arc e (edges p) i)) (negative, (r.0, to_chain (edges p) r.0 e.told e.guard.cell r.1)) (edges-table p table s)
 
 -- EDGES LIE WITHIN
 
@@ -60,9 +60,9 @@ module _ (p : CoreProgram) where
   abbrev AskedIn : Asked → Type 0
   AskedIn g = g.cell < length p.cells
 
-  asks_in : (n : ℕ) (strict : Bool) (c : Constraint) → AskInside (length p.cells) c → Each AskedIn (asked_by n strict c)
-  asks_in n strict [] h = tt
-  asks_in n strict (x ∷ c) h = (h.0, asks_in n strict c h.1)
+  asks_in : (n : ℕ) (negative : Bool) (c : Constraint) → AskInside (length p.cells) c → Each AskedIn (asked_by n negative c)
+  asks_in n negative [] h = tt
+  asks_in n negative (x ∷ c) h = (h.0, asks_in n negative c h.1)
 
   one_in : (n d : ℕ) (path : List Asked) → d < length p.cells → Each AskedIn path → Each IsIn (map (λ g. edge_of g n d) path)
   one_in n d [] lt h = tt
@@ -82,18 +82,18 @@ module _ (p : CoreProgram) where
   agent_in (Hence a) n locals path h g = agent_in a (suc n) locals [] h tt
   agent_in (Next a) n locals path h g = agent_in a (suc n) locals [] h tt
 
-  pub edges-inside : IsProgram p → Each (λ e. Within (length p.cells) (edge_arc e)) (edges p)
+  pub edges-inside : IsWellFormed p → Each (λ e. Within (length p.cells) (edge_arc e)) (edges p)
   edges-inside is = agent_in (agent_at p.nodes 0) 0 [] [] is.scoped tt
 
   within : (es : List Edge) → Each IsIn es → Each (Within (length p.cells)) (map edge_arc es)
   within [] h = tt
   within (e ∷ es) h = (h.0, within es h.1)
 
-  edge_arcs-within : IsProgram p → All (Within (length p.cells)) (edge_arcs p)
+  edge_arcs-within : IsWellFormed p → All (Within (length p.cells)) (edge_arcs p)
   edge_arcs-within is = each_all (Within (length p.cells)) (edge_arcs p) (within (edges p) (edges-inside is))
 
   -- where no edge is bad, the ranks of the cells stratify
-  pub good-table : IsProgram p → All (λ e. IsBad (edge_arcs p) e → ⊥) (edge_arcs p) → (t : List ℕ) × Stratifies p t
+  pub good-table : IsWellFormed p → All (λ e. IsBad (edge_arcs p) e → ⊥) (edge_arcs p) → (t : List ℕ) × Stratifies p t
   good-table is good =
       let t = ranks (edge_arcs p) (length p.cells) (edge_arcs-within is) good in
       let meets = ranks-meet (edge_arcs p) (length p.cells) (edge_arcs-within is) good in (
@@ -105,7 +105,7 @@ module _ (p : CoreProgram) where
       )
 
   -- so the numbers of the least table are less than the number of cells
-  pub least-inside : IsProgram p → (t : List ℕ) → Stratifies p t → strata.IsLeastTable p t → (c : ℕ) → c < length p.cells → slice_index t c < length p.cells
+  pub least-inside : IsWellFormed p → (t : List ℕ) → Stratifies p t → strata.IsLeastTable p t → (c : ℕ) → c < length p.cells → slice_index t c < length p.cells
   least-inside is t s least c lt =
       let good = good_arcs (edge_arcs p) (edges-table p t s) in
       let other = ranks (edge_arcs p) (length p.cells) (edge_arcs-within is) good in

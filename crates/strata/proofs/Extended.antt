@@ -6,7 +6,7 @@ use Rattle.std.proofs.lemmas.List.{get_or_append_left, get_or-append-add}
 use Rattle.std.proofs.lemmas.List.FromFn.{get_or-map-range_with_len}
 use Rattle.std.proofs.Math.Nat.{le-min, min-le_left, min-le_right}
 use Rattle.agent_core.specs.Programs.{CoreProgram}
-use Rattle.agent_core.specs.Facts.{IsProgram}
+use Rattle.agent_core.specs.WellFormed.{IsWellFormed}
 use Rattle.agent_core.specs.Strata.{Edge, edges, In, Each, Stratifies}
 use Rattle.agent_core.specs.Strata as strata
 use Rattle.order_tables.specs.declared.arc.Arc.{Arc}
@@ -92,26 +92,26 @@ module _ (p : CoreProgram) (table : List ℕ) (s : Stratifies p table) where
       let a = at_cell g.asked g.cell in
       let b = at_node g.to g.part in
       let low = table-low table g.asked in
-      let least = le-lowest table (above_all table) (slice_index table g.asked + (if g.strict then 1 else 0)) (tells p g.to) (at_most g.strict (slice_index table g.asked) low) (λ t i. made t (g.makes t i)) in
+      let least = le-lowest table (above_all table) (slice_index table g.asked + (if g.negative then 1 else 0)) (tells p g.to) (at_most g.negative (slice_index table g.asked) low) (λ t i. made t (g.makes t i)) in
       omega arith)
     where
       at_most : (b : Bool) (x : ℕ) → x + 1 ≤ above_all table → x + (if b then 1 else 0) ≤ above_all table
       at_most true x le = omega arith
       at_most false x le = omega arith
 
-      made : (t : ℕ × ℕ) → (x : Edge) × In x (edges p) × (x.guard.cell ≡ g.asked) × (x.guard.strict ≡ g.strict) × (x.told ≡ t.1) → slice_index table g.asked + (if g.strict then 1 else 0) ≤ slice_index table t.1
+      made : (t : ℕ × ℕ) → (x : Edge) × In x (edges p) × (x.guard.cell ≡ g.asked) × (x.guard.negative ≡ g.negative) × (x.told ≡ t.1) → slice_index table g.asked + (if g.negative then 1 else 0) ≤ slice_index table t.1
       made t m =
           let met = in_each (strata.Meets table) (edges p) m.0 s.each m.1 in
-          let one = subst (λ (k : ℕ). slice_index table k + (if m.0.guard.strict then 1 else 0) ≤ slice_index table m.0.told) m.2 met in
+          let one = subst (λ (k : ℕ). slice_index table k + (if m.0.guard.negative then 1 else 0) ≤ slice_index table m.0.told) m.2 met in
           let two = subst (λ (b : Bool). slice_index table g.asked + (if b then 1 else 0) ≤ slice_index table m.0.told) m.3 one in
-          subst (λ (k : ℕ). slice_index table g.asked + (if g.strict then 1 else 0) ≤ slice_index table k) m.4 two
+          subst (λ (k : ℕ). slice_index table g.asked + (if g.negative then 1 else 0) ≤ slice_index table k) m.4 two
 
   meets : (e : Arc) → Grounded p e → Meets full e
   meets e (inl g) = told_meets e g
   meets e (inr (inl g)) = down_meets e g
   meets e (inr (inr g)) = ask_meets e g
 
-  pub full-meets : IsProgram p → All (Meets full) (arcs p)
+  pub full-meets : IsWellFormed p → All (Meets full) (arcs p)
   full-meets is = each_all (Meets full) (arcs p) (each-map (Grounded p) (Meets full) meets (arcs p) (arcs-grounded p is))
 
 -- ARCS LIE WITHIN
@@ -121,5 +121,5 @@ within p e (inl g) = subst (Within (length p.cells + length p.nodes)) (sym g.is)
 within p e (inr (inl g)) = subst (Within (length p.cells + length p.nodes)) (sym g.is) (let a = g.node in let b = g.part in (omega arith, omega arith))
 within p e (inr (inr g)) = subst (Within (length p.cells + length p.nodes)) (sym g.is) (let a = g.part in let b = g.cell in (omega arith, omega arith))
 
-pub arcs-within : (p : CoreProgram) → IsProgram p → All (Within (length p.cells + length p.nodes)) (arcs p)
+pub arcs-within : (p : CoreProgram) → IsWellFormed p → All (Within (length p.cells + length p.nodes)) (arcs p)
 arcs-within p is = each_all (Within (length p.cells + length p.nodes)) (arcs p) (each-map (Grounded p) (Within (length p.cells + length p.nodes)) (within p) (arcs p) (arcs-grounded p is))

@@ -7,7 +7,7 @@ use Rattle.agent_core.specs.declared.node.Node.TheVariants as nodes
 use Rattle.agent_core.specs.Programs.{CoreProgram}
 use Rattle.agent_core.specs.Agents.{Agent, Constraint, Skip, Tell, Then, Else, Par, New, Hence, Next, agent_at}
 use Rattle.agent_core.specs.Listing.{size}
-use Rattle.agent_core.specs.Facts.{IsProgram}
+use Rattle.agent_core.specs.WellFormed.{IsWellFormed}
 use Rattle.agent_core.specs.Strata.{Asked, Edge, asked_by, edges, tells_of, In, Each}
 use Rattle.agent_core.proofs.Standing.{stands-head}
 use Rattle.order_tables.specs.declared.arc.Arc.{Arc}
@@ -37,11 +37,11 @@ pub record DownArc (p : CoreProgram) (e : Arc) : Type 0 where
 pub record AskArc (p : CoreProgram) (e : Arc) : Type 0 where
   pub asked : ℕ
   pub to : ℕ
-  pub strict : Bool
-  pub is : e ≡ arc asked (length p.cells + to) strict
+  pub negative : Bool
+  pub is : e ≡ arc asked (length p.cells + to) negative
   pub cell : asked < length p.cells
   pub part : to < length p.nodes
-  pub makes : (t : ℕ × ℕ) → In t (tells p to) → (x : Edge) × In x (edges p) × (x.guard.cell ≡ asked) × (x.guard.strict ≡ strict) × (x.told ≡ t.1)
+  pub makes : (t : ℕ × ℕ) → In t (tells p to) → (x : Edge) × In x (edges p) × (x.guard.cell ≡ asked) × (x.guard.negative ≡ negative) × (x.told ≡ t.1)
 
 abbrev pub Grounded : CoreProgram → Arc → Type 0
 Grounded p e = ToldArc p e ⊎ (DownArc p e ⊎ AskArc p e)
@@ -62,11 +62,11 @@ module _ (p : CoreProgram) where
   told_arcs n [] lt is sub = tt
   told_arcs n (x ∷ c) lt is sub = (inl (record { from = n; told = x.0; is = refl; node = lt; cell = is.0; below = (n, sub (n, x.0) (inl refl)) }), told_arcs n c lt is.1 (λ t i. sub t (inr i)))
 
-  ask_arcs : (m : ℕ) (strict : Bool) (c : Constraint) → m < length p.nodes → AskInside cells c
-      → ((x : ℕ) → In x (map (λ y. y.0) c) → (t : ℕ × ℕ) → In t (tells p m) → (e : Edge) × In e (edges p) × (e.guard.cell ≡ x) × (e.guard.strict ≡ strict) × (e.told ≡ t.1))
-      → Each (Grounded p) (map (λ x. arc x.0 (cells + m) strict) c)
-  ask_arcs m strict [] lt is makes = tt
-  ask_arcs m strict (x ∷ c) lt is makes = (inr (inr (record { asked = x.0; to = m; strict = strict; is = refl; cell = is.0; part = lt; makes = makes x.0 (inl refl) })), ask_arcs m strict c lt is.1 (λ y i. makes y (inr i)))
+  ask_arcs : (m : ℕ) (negative : Bool) (c : Constraint) → m < length p.nodes → AskInside cells c
+      → ((x : ℕ) → In x (map (λ y. y.0) c) → (t : ℕ × ℕ) → In t (tells p m) → (e : Edge) × In e (edges p) × (e.guard.cell ≡ x) × (e.guard.negative ≡ negative) × (e.told ≡ t.1))
+      → Each (Grounded p) (map (λ x. arc x.0 (cells + m) negative) c)
+  ask_arcs m negative [] lt is makes = tt
+  ask_arcs m negative (x ∷ c) lt is makes = (inr (inr (record { asked = x.0; to = m; negative = negative; is = refl; cell = is.0; part = lt; makes = makes x.0 (inl refl) })), ask_arcs m negative c lt is.1 (λ y i. makes y (inr i)))
 
   down : (n m : ℕ) → n < length p.nodes → m < length p.nodes → ((t : ℕ × ℕ) → In t (tells p m) → In t (tells p n)) → Grounded p (arc (cells + n) (cells + m) false)
   down n m ln lm sub = inr (inl (record { from = n; to = m; is = refl; node = ln; part = lm; below = sub }))
@@ -90,7 +90,7 @@ module _ (p : CoreProgram) where
         (
           down n (suc n) (under-within p n locals (Then c a) u) lt (narrow n (suc n) locals locals (Then c a) a u v (λ t i. i)),
           ask_arcs (suc n) false c lt is (λ x i t j.
-              let g : Asked = record { node = n; cell = x; strict = false } in
+              let g : Asked = record { node = n; cell = x; negative = false } in
               (edge_of g t.0 t.1, path_edge p (suc n) locals a v g (in_right g u.path (asked_by n false c) (asked_in n false c x i)) t j, refl, refl, refl)),
         ),
       )
@@ -104,7 +104,7 @@ module _ (p : CoreProgram) where
         (
           down n (suc n) (under-within p n locals (Else c a) u) lt (narrow n (suc n) locals locals (Else c a) a u v (λ t i. i)),
           ask_arcs (suc n) true c lt is (λ x i t j.
-              let g : Asked = record { node = n; cell = x; strict = true } in
+              let g : Asked = record { node = n; cell = x; negative = true } in
               (edge_of g t.0 t.1, path_edge p (suc n) locals a v g (in_right g u.path (asked_by n true c) (asked_in n true c x i)) t j, refl, refl, refl)),
         ),
       )
@@ -133,15 +133,15 @@ module _ (p : CoreProgram) where
   node_grounded n locals (Next a) u = (nodes.Next (suc n), stands-head u.stands, under-within p (suc n) locals a ((Under-goes_down p).next_body n locals a u), tt)
 
   -- of a node of the program, its names lie inside and its arcs are grounded
-  grounded_at : IsProgram p → (n : ℕ) (node : Node) → slice_get p.nodes n ≡ Some node → NodeInside cells (length p.nodes) node × Each (Grounded p) (node_arcs cells n node)
+  grounded_at : IsWellFormed p → (n : ℕ) (node : Node) → slice_get p.nodes n ≡ Some node → NodeInside cells (length p.nodes) node × Each (Grounded p) (node_arcs cells n node)
   grounded_at is n node e =
       let place = under p is n (slice_get_within p.nodes n node e) in
       let at = node_grounded n place.0 (agent_at p.nodes n) place.1 in
       let same : at.0 ≡ node = let found = at.1 in cc in
       subst (λ (x : Node). NodeInside cells (length p.nodes) x × Each (Grounded p) (node_arcs cells n x)) same (at.2, at.3)
 
-  pub program-inside : IsProgram p → AllInside cells p.nodes
+  pub program-inside : IsWellFormed p → AllInside cells p.nodes
   program-inside is n node e = (grounded_at is n node e).0
 
-  pub arcs-grounded : IsProgram p → Each (Grounded p) (arcs p)
+  pub arcs-grounded : IsWellFormed p → Each (Grounded p) (arcs p)
   arcs-grounded is = each-arcs_from (Grounded p) cells 0 p.nodes (λ k node e. let at : k ≡ 0 + k = omega arith in subst (λ (m : ℕ). Each (Grounded p) (node_arcs cells m node)) at (grounded_at is k node e).1)

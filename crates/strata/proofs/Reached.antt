@@ -1,7 +1,7 @@
 -- Cells that arcs join are joined by edges.
 use Rattle.std.proofs.Common.{◌≡◌, inl, inr, ℕ, zero, suc, ◌+◌, ◌<◌, length, refl, sym, subst, arith}
 use Rattle.agent_core.specs.Programs.{CoreProgram}
-use Rattle.agent_core.specs.Facts.{IsProgram}
+use Rattle.agent_core.specs.WellFormed.{IsWellFormed}
 use Rattle.agent_core.specs.Strata.{Edge, edges, In, Each}
 use Rattle.agent_core.specs.Strata as strata
 use Rattle.order_tables.specs.declared.arc.Arc.{Arc}
@@ -47,10 +47,10 @@ module _ (p : CoreProgram) (d : ℕ) where
   step e (inr (inl g)) = down_step e g
   step e (inr (inr g)) = ask_step e g
 
-  chain-reached : IsProgram p → d < cells → (n x : ℕ) → Chain (arcs p) d x n → IsReached x
+  chain-reached : IsWellFormed p → d < cells → (n x : ℕ) → Chain (arcs p) d x n → IsReached x
   chain-reached is lt zero x e = subst IsReached e (cell_reached d lt (0, refl))
   chain-reached is lt (suc n) x (e, chain, i, same) =
       subst IsReached same (all_at Step (arcs p) e (each_all Step (arcs p) (each-map (Grounded p) Step step (arcs p) (arcs-grounded p is))) i (chain-reached is lt n e.low chain))
 
-  pub arcs-edges : IsProgram p → (b : ℕ) → d < cells → b < cells → Reaches (arcs p) d b → strata.Reaches (edges p) d b
+  pub arcs-edges : IsWellFormed p → (b : ℕ) → d < cells → b < cells → Reaches (arcs p) d b → strata.Reaches (edges p) d b
   arcs-edges is b ld lb r = (chain-reached is ld r.0 b r.1).0 lb

@@ -6,7 +6,7 @@ use Rattle.std.proofs.lemmas.List.{length-take-le, get_or-take}
 use Rattle.agent_core.specs.declared.node.CellDecl.{CellDecl}
 use Rattle.agent_core.specs.declared.node.Node.{Node}
 use Rattle.agent_core.specs.Programs.{CoreProgram}
-use Rattle.agent_core.specs.Facts.{IsProgram}
+use Rattle.agent_core.specs.WellFormed.{IsWellFormed}
 use Rattle.agent_core.specs.Strata.{Edge, edges, cases, In, Each, Stratifies, IsLeastTable, HasNoTable, IsFirstCase}
 use Rattle.agent_core.specs.Strata as strata
 use Rattle.order_tables.specs.declared.arc.Arc.{Arc}
@@ -38,11 +38,11 @@ rows_are p cs ns list rows same ec en el er h =
     subst (AreReaching (arcs p) (length p.cells + length p.nodes) (length p.cells)) (sym er) (subst (λ (n : ℕ). AreReaching (arcs p) (length p.cells + length p.nodes) n rows) (ap length ec)
     (subst (λ (n : ℕ). AreReaching (arcs p) n (length cs) rows) (sum_of p cs ns ec en) (subst (λ (xs : List Arc). AreReaching xs (length cs + length ns) (length cs) rows) el h)))
 
-pub list-within : (p : CoreProgram) → IsProgram p → (cs : List CellDecl) (ns : List Node) (list : List Arc) → cs ≡ p.cells → ns ≡ p.nodes → list ≡ arcs p → All (Within (length cs + length ns)) list
+pub list-within : (p : CoreProgram) → IsWellFormed p → (cs : List CellDecl) (ns : List Node) (list : List Arc) → cs ≡ p.cells → ns ≡ p.nodes → list ≡ arcs p → All (Within (length cs + length ns)) list
 list-within p is cs ns list ec en el =
     subst (λ (n : ℕ). All (Within n) list) (sym (sum_of p cs ns ec en)) (subst (λ (es : List Arc). All (Within (length p.cells + length p.nodes)) es) (sym el) (arcs-within p is))
 
-module _ (p : CoreProgram) (is : IsProgram p) (rows : List (Vec Bool Global)) (are : AreReaching (arcs p) (length p.cells + length p.nodes) (length p.cells) rows) where
+module _ (p : CoreProgram) (is : IsWellFormed p) (rows : List (Vec Bool Global)) (are : AreReaching (arcs p) (length p.cells + length p.nodes) (length p.cells) rows) where
   abbrev test : Edge → Bool
   test e = reaches_back rows (edge_case e)
 
@@ -108,7 +108,7 @@ module _ (p : CoreProgram) (is : IsProgram p) (rows : List (Vec Bool Global)) (a
 
 -- THE TABLE
 
-module _ (p : CoreProgram) (is : IsProgram p) (t : List ℕ) (long : length t ≡ length p.cells + length p.nodes) (meets : All (Meets t) (arcs p)) (least : IsLeast (arcs p) t) where
+module _ (p : CoreProgram) (is : IsWellFormed p) (t : List ℕ) (long : length t ≡ length p.cells + length p.nodes) (meets : All (Meets t) (arcs p)) (least : IsLeast (arcs p) t) where
   abbrev cells : ℕ
   cells = length p.cells
 
@@ -146,7 +146,7 @@ module _ (p : CoreProgram) (is : IsProgram p) (t : List ℕ) (long : length t �
       omega arith
 
 -- of lists that are the program's
-pub table-is : (p : CoreProgram) → IsProgram p → (cs : List CellDecl) (ns : List Node) (list : List Arc) (t found : List ℕ) → cs ≡ p.cells → ns ≡ p.nodes → list ≡ arcs p
+pub table-is : (p : CoreProgram) → IsWellFormed p → (cs : List CellDecl) (ns : List Node) (list : List Arc) (t found : List ℕ) → cs ≡ p.cells → ns ≡ p.nodes → list ≡ arcs p
     → length t ≡ length cs + length ns → All (Meets t) list → IsLeast list t → found ≡ take (length cs) t
     → Stratifies p found × IsLeastTable p found × All (λ n. n < 1024) found
 table-is p is cs ns list t found ec en el long meets least ef =

@@ -173,7 +173,7 @@ pub cases_from-end : (p : CoreProgram) (n : ℕ) → length p.nodes ≤ n → ca
 cases_from-end p n le = let e : length p.nodes - n ≡ 0 = omega arith in ap (λ (k : ℕ). flat_map (λ m. cases_at m (agent_at p.nodes m)) (range_with_len n k)) e
 
 abbrev else_case : ℕ → ℕ → ℕ → ℕ → Edge
-else_case n m d cell = record { guard = record { node = n; cell = cell; strict = true }; tell = m; told = d }
+else_case n m d cell = record { guard = record { node = n; cell = cell; negative = true }; tell = m; told = d }
 
 -- the first of the cases of one else
 module _ (test : Case → Bool) where

@@ -5,7 +5,7 @@ use Rattle.agent_core.specs.declared.node.Node.{Node}
 use Rattle.agent_core.specs.Programs.{CoreProgram}
 use Rattle.agent_core.specs.Agents.{Agent, Constraint, Skip, Tell, Then, Else, Par, New, Hence, Next, agent_at}
 use Rattle.agent_core.specs.Listing.{size, listing}
-use Rattle.agent_core.specs.Facts.{AreInScope, Scoped, IsProgram}
+use Rattle.agent_core.specs.WellFormed.{AreInScope, Scoped, IsWellFormed}
 use Rattle.agent_core.specs.Strata.{Asked, Edge, asked_by, agent_edges, edges, tells_of, In}
 use Rattle.agent_core.proofs.Standing.{StandsAt, stands-itself, stands-tail, stands-within}
 use Rattle.agent_core.proofs.ListingTrees.{length-listing, size-some, left_listed, right_listed, listed_tree, root_tree}
@@ -41,7 +41,7 @@ Under-goes_down p = record {
   next_body = λ n locals a h. record { stands = stands-tail h.stands; scoped = h.scoped; path = []; among = h.among };
 }
 
-pub root_under : (p : CoreProgram) → IsProgram p → Under p 0 [] (agent_at p.nodes 0)
+pub root_under : (p : CoreProgram) → IsWellFormed p → Under p 0 [] (agent_at p.nodes 0)
 root_under p is = record {
   stands = stands-itself (is.tree.1 ∙ ap (listing 0) (sym (root_tree p.nodes is.tree)));
   scoped = is.scoped;
@@ -50,7 +50,7 @@ root_under p is = record {
 }
 
 -- each node has its place under a path
-pub under : (p : CoreProgram) → IsProgram p → (n : ℕ) → n < length p.nodes → (locals : List ℕ) × Under p n locals (agent_at p.nodes n)
+pub under : (p : CoreProgram) → IsWellFormed p → (n : ℕ) → n < length p.nodes → (locals : List ℕ) × Under p n locals (agent_at p.nodes n)
 under p is n lt =
     let long = size-root p.nodes is.tree in
     let found = each_node (Under p) (Under-goes_down p) 0 [] (agent_at p.nodes 0) (root_under p is) n n (omega arith) (omega arith) in
@@ -98,10 +98,10 @@ tell_edge (Par l r) n path g t i j =
 pub path_edge : (p : CoreProgram) (n : ℕ) (locals : List ℕ) (a : Agent) (u : Under p n locals a) (g : Asked) → In g u.path → (t : ℕ × ℕ) → In t (tells p n) → In (edge_of g t.0 t.1) (edges p)
 path_edge p n locals a u g i t j = u.among (edge_of g t.0 t.1) (tell_edge a n u.path g t i (subst (In t) (tells-at p n locals a u) j))
 
-pub asked_in : (n : ℕ) (strict : Bool) (c : Constraint) (x : ℕ) → In x (map (λ y. y.0) c) → In (record { node = n; cell = x; strict = strict }) (asked_by n strict c)
-asked_in n strict [] x i = absurd i
-asked_in n strict (y ∷ c) x (inl e) = inl (ap (λ (k : ℕ). record { node = n; cell = k; strict = strict }) e)
-asked_in n strict (y ∷ c) x (inr i) = inr (asked_in n strict c x i)
+pub asked_in : (n : ℕ) (negative : Bool) (c : Constraint) (x : ℕ) → In x (map (λ y. y.0) c) → In (record { node = n; cell = x; negative = negative }) (asked_by n negative c)
+asked_in n negative [] x i = absurd i
+asked_in n negative (y ∷ c) x (inl e) = inl (ap (λ (k : ℕ). record { node = n; cell = k; negative = negative }) e)
+asked_in n negative (y ∷ c) x (inr i) = inr (asked_in n negative c x i)
 
 -- the cells of a constraint in scope are the program's
 pub scope-inside : (p : CoreProgram) (locals : List ℕ) (c : Constraint) → AreInScope p locals c → AskInside (length p.cells) c

@@ -8,7 +8,7 @@ use Rattle.agent_core.specs.Strata.{Each}
 use Rattle.order_tables.specs.declared.arc.Arc.{Arc}
 
 abbrev pub arc : ℕ → ℕ → Bool → Arc
-arc low high strict = record { low = low; high = high; strict = strict }
+arc low high negative = record { low = low; high = high; negative = negative }
 
 -- the arcs of node n, where the nodes are numbered after so many cells
 abbrev pub node_arcs : ℕ → ℕ → Node → List Arc

@@ -13,20 +13,20 @@ fn push_arc(list: &mut Vec<Arc>, low: u32, high: u32) -> Result<(), Memory>
     list.push(Arc {
         low,
         high,
-        strict: false,
+        negative: false,
     })?;
     Ok(())
 }
 
 /// An arc from each cell of the constraint.
-fn push_asks(list: &mut Vec<Arc>, ask: &Constraint, to: u32, strict: bool) -> Result<(), Memory>
-    ensures { OnOk result (list.new.items ≡ list.old.items ++ map (λ x. arc x.0 to strict) ask.now) }
+fn push_asks(list: &mut Vec<Arc>, ask: &Constraint, to: u32, negative: bool) -> Result<(), Memory>
+    ensures { OnOk result (list.new.items ≡ list.old.items ++ map (λ x. arc x.0 to negative) ask.now) }
 {
     for pair in ask.list() {
         list.push(Arc {
             low: pair.0,
             high: to,
-            strict,
+            negative,
         })?;
     }
     Ok(())
@@ -40,7 +40,7 @@ fn push_told(list: &mut Vec<Arc>, told: &Constraint, from: u32) -> Result<(), Me
         list.push(Arc {
             low: from,
             high: pair.0,
-            strict: false,
+            negative: false,
         })?;
     }
     Ok(())

@@ -2,7 +2,7 @@
 use Rattle.std.proofs.Common.{◌≡◌, ℕ, zero, suc, ◌+◌, List, [], ◌∷◌, ◌++◌, length, refl, ap, sym, ◌∙◌, arith, length-append, append_assoc}
 use Rattle.program_grammar.specs.Phrases.{UnitPhrase, Tell, Braces, IfThen, IfElse, LocalSignal, LocalInt, AgentPhrase, Only, Par, ProgramPhrase, Runs, Signals, Ints}
 use Rattle.program_grammar.specs.Phrases as phrase
-use Rattle.agent_core.specs.Facts.{count_up}
+use Rattle.agent_core.specs.WellFormed.{count_up}
 use Rattle.tdcc_reader.specs.Surfaces.{Placed, placed, Declared, unit_tree, agent_tree, unit_cells, agent_cells, names_cells, names_scope, items_cells, items_scope, tree_from, program_tree, declared_cells, program_cells}
 use Rattle.surface_laws.specs.Surfaces.{new_cells}
 

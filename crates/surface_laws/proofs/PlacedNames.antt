@@ -8,7 +8,7 @@ use Rattle.token_system.specs.declared.cell.Kind.{Kind}
 use Rattle.token_system.specs.declared.cell.Kind.TheVariants as kind
 use Rattle.agent_core.specs.declared.node.CellDecl.{CellDecl}
 use Rattle.agent_core.specs.Programs.{CoreProgram}
-use Rattle.agent_core.specs.Facts.{IsAmong}
+use Rattle.agent_core.specs.WellFormed.{IsAmong}
 use Rattle.program_grammar.specs.Phrases.{NamesPhrase, LastName, MoreName, ItemsPhrase, LastItem, MoreItem}
 use Rattle.tdcc_reader.specs.Scope.{Known, known, kind_in_scope, declared_fault, domain_fault, item_fault, names_known, items_fault, items_known}
 use Rattle.tdcc_reader.specs.Surfaces.{Placed, placed, cell_in_scope, Declared, declared, declared_signal, declared_number, cell_view, names_cells, names_scope, items_cells, items_scope}

@@ -10,7 +10,7 @@ use Rattle.token_system.specs.declared.cell.Token as cell_token
 use Rattle.token_system.specs.declared.cell.Token.TheVariants as tokens
 use Rattle.agent_core.specs.Agents.{Constraint}
 use Rattle.agent_core.specs.Programs.{CoreProgram}
-use Rattle.agent_core.specs.Facts.{IsInScope, AreInScope, IsConstraint}
+use Rattle.agent_core.specs.WellFormed.{IsInScope, AreInScope, IsConstraint}
 use Rattle.program_grammar.specs.Phrases.{TokenPhrase, AtLeast, AtMost, Exactly, ConstraintPhrase, One, Both, UnitPhrase, Tell, Braces, IfThen, IfElse, LocalSignal, LocalInt, AgentPhrase, Only, Par, ProgramPhrase, Runs, Signals, Ints}
 use Rattle.program_grammar.specs.Phrases as phrase
 use Rattle.tdcc_reader.specs.declared.dialect.Dialect.{Dialect}

@@ -6,7 +6,7 @@ use Rattle.std.proofs.lemmas.Option.{slice_get-map}
 use Rattle.program_lexemes.specs.declared.bytes.TextForm.TheVariants as forms
 use Rattle.program_grammar.specs.Phrases.{ProgramPhrase}
 use Rattle.agent_core.specs.declared.node.CellDecl.{CellDecl}
-use Rattle.agent_core.specs.Facts.{count_up}
+use Rattle.agent_core.specs.WellFormed.{count_up}
 use Rattle.core_text.specs.GoodNames.{IsName}
 use Rattle.tdcc_reader.specs.declared.dialect.Dialect.{Dialect}
 use Rattle.tdcc_reader.specs.declared.dialect.Dialect.TheVariants as dialects

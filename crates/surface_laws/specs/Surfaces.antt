@@ -4,7 +4,7 @@ use Rattle.std.specs.Prelude.{◌≡◌, ◌⊎◌, ℕ, ◌-◌, ◌<◌, ◌�
 use Rattle.program_lexemes.specs.declared.bytes.TextForm.{TextForm}
 use Rattle.agent_core.specs.declared.node.CellDecl.{CellDecl}
 use Rattle.agent_core.specs.Programs.{CoreProgram}
-use Rattle.agent_core.specs.Facts.{IsAmong, IsConstraint, count_up}
+use Rattle.agent_core.specs.WellFormed.{IsAmong, IsConstraint, count_up}
 use Rattle.core_text.specs.CoreTexts.{name_at}
 use Rattle.core_text.specs.GoodNames.{IsName}
 use Rattle.tdcc_reader.specs.Surfaces.{SurfaceProgram}

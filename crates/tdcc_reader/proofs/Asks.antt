@@ -14,7 +14,7 @@ use Rattle.tdcc_reader.specs.Dialects.{max_tokens, equation_count, token_count}
 use Rattle.tdcc_reader.specs.Widths.{token_width, constraint_width, unit_width, agent_width, names_width, items_width}
 use Rattle.tdcc_reader.specs.Limits.{first, many_limit, constraint_limit, deep_limit, unit_limit, agent_limit, limit_from, program_limit}
 use Rattle.tdcc_reader.specs.Surfaces.{Placed, placed, token_tokens, constraint_of, unit_cells, unit_tree, agent_tree, names_cells, names_scope, items_cells, items_scope, tree_from, program_tree}
-use Rattle.tdcc_reader.specs.FlatForms.{entry, flat_forms, IsAsk, IsWholeEntry}
+use Rattle.tdcc_reader.specs.FlatForms.{entry, flat_forms, IsConstraintList, IsWholeEntry}
 
 -- none is found only where neither is
 pub none_left : {A : Type 0} (f g : Option A) → first f g ≡ None → f ≡ None
@@ -71,7 +71,7 @@ constraint_some dialect s (Both t c) n at e =
     let (v, w) = constraint_some dialect s c (n + token_count dialect t) (at + token_width t + 1) (none_right (many_limit dialect (n + token_count dialect t) at) (constraint_limit dialect c (n + token_count dialect t) (at + token_width t + 1)) e) in
     let l = length-append (token_tokens s t) (constraint_of s c) in (omega arith, omega arith)
 
-pub ask_kept : (dialect : Dialect) (s : List Placed) (c : ConstraintPhrase) (at : ℕ) → constraint_limit dialect c 0 at ≡ None → IsAsk (constraint_of s c)
+pub ask_kept : (dialect : Dialect) (s : List Placed) (c : ConstraintPhrase) (at : ℕ) → constraint_limit dialect c 0 at ≡ None → IsConstraintList (constraint_of s c)
 ask_kept dialect s c at e = let (x, y) = constraint_some dialect s c 0 at e in (x, omega arith)
 
 abbrev UnitWhole : Dialect → UnitPhrase → Type 0

@@ -60,23 +60,23 @@ forms_at at [] = []
 forms_at at (e ∷ es) = form_at at e.kind e.ask ∷ forms_at (at + 1) es
 
 -- an ask of a form has 1 to 16 tokens
-abbrev pub IsAsk : Constraint → Type 0
-IsAsk c = (1 ≤ length c) × (length c ≤ 16)
+abbrev pub IsConstraintList : Constraint → Type 0
+IsConstraintList c = (1 ≤ length c) × (length c ≤ 16)
 
 -- the flat_form has such an ask, where its form has one
-abbrev pub HasAsk : FlatFormKind → Constraint → Type 0
-HasAsk kind.Tell c = IsAsk c
-HasAsk kind.Then c = IsAsk c
-HasAsk kind.Else c = IsAsk c
-HasAsk kind.When c = IsAsk c
-HasAsk kind.Watch c = IsAsk c
-HasAsk kind.Time c = IsAsk c
-HasAsk _ c = Unit {0}
+abbrev pub HasConstraint : FlatFormKind → Constraint → Type 0
+HasConstraint kind.Tell c = IsConstraintList c
+HasConstraint kind.Then c = IsConstraintList c
+HasConstraint kind.Else c = IsConstraintList c
+HasConstraint kind.When c = IsConstraintList c
+HasConstraint kind.Watch c = IsConstraintList c
+HasConstraint kind.Time c = IsConstraintList c
+HasConstraint _ c = Unit {0}
 
 -- the same of an entry
 abbrev pub IsWholeEntry : Entry → Type 0
-IsWholeEntry e = HasAsk e.kind e.ask
+IsWholeEntry e = HasConstraint e.kind e.ask
 
 -- the same of a flat_form of the code
 abbrev pub IsWholeFlatForm : code.FlatForm → Type 0
-IsWholeFlatForm d = HasAsk d.kind d.ask.items
+IsWholeFlatForm d = HasConstraint d.kind d.ask.items

@@ -1,6 +1,6 @@
 // Forms while they are read.
 ghost use Rattle.std.specs.Prelude.{◌≡◌, ◌+◌, All, IfOk, map};
-ghost use Rattle.tdcc_reader.specs.FlatForms.{HasAsk, IsWholeFlatForm, flat_form_view, form_at, forms_at, link};
+ghost use Rattle.tdcc_reader.specs.FlatForms.{HasConstraint, IsWholeFlatForm, flat_form_view, form_at, forms_at, link};
 
 use crate::surface::Form;
 use agent_core::Constraint;
@@ -41,7 +41,7 @@ fn link(at: usize, behind: usize) -> u32
 
 /// The form of a flat_form that has this number.
 fn form_at(at: usize, kind: FlatFormKind, ask: Vec<(u32, Token)>) -> Form
-    requires { HasAsk kind ask.items }
+    requires { HasConstraint kind ask.items }
     ensures { result ≡ form_at at kind ask.items }
 {
     let body = link(at, 1);

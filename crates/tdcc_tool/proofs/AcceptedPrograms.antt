@@ -2,7 +2,7 @@
 use Rattle.std.proofs.Common.{◌≡◌, ℕ, List, length, refl, sym, ap, ◌∙◌, subst, arith}
 use Rattle.std.specs.Prelude.{◌≢◌, IfErr, Result, Ok, Err}
 use Rattle.agent_core.specs.Programs.{CoreProgram}
-use Rattle.agent_core.specs.Facts.{IsProgram}
+use Rattle.agent_core.specs.WellFormed.{IsWellFormed}
 use Rattle.tdcc_reader.specs.declared.fault.ReadFault.{ReadFault}
 use Rattle.tdcc_reader.specs.declared.fault.ReadFault.TheVariants.{Memory}
 use Rattle.tdcc_reader.specs.declared.dialect.Dialect.TheVariants.{Program}
@@ -24,7 +24,7 @@ use Rattle.tdcc_tool.specs.Accepted.{IsBuilt, Accepts}
 use Rattle.tdcc_tool.specs.TextFaults.{HasFault, misread, many_nodes, many_cells}
 
 -- the program of a text is a program, with names that can be written and read back
-pub built_program : (text : List ℕ) (p : CoreProgram) → IsBuilt text p → IsProgram p
+pub built_program : (text : List ℕ) (p : CoreProgram) → IsBuilt text p → IsWellFormed p
 built_program text p a =
     let (d, drawn, made) = a.core.expansion in
     expansion_program a.surface (surface_formed a.surface (text, a.reads)) d p made a.core.few_nodes a.core.few_cells drawn
@@ -87,7 +87,7 @@ misread_if text (Ok x) h = tt
 misread_if text (Err f) h = λ says. misread f says h
 
 -- so are the texts that run
-pub accepted_program : (text : List ℕ) (p : CoreProgram) → Accepts text p → IsProgram p
+pub accepted_program : (text : List ℕ) (p : CoreProgram) → Accepts text p → IsWellFormed p
 accepted_program text p a = built_program text p a.built
 
 pub one_accepted : (text : List ℕ) (p q : CoreProgram) → Accepts text p → Accepts text q → p ≡ q

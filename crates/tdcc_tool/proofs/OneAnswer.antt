@@ -6,7 +6,7 @@ use Rattle.tdcc_base.specs.declared.status.Status.{Status}
 use Rattle.tdcc_base.specs.Texts.{text_of, trace_of}
 use Rattle.tdcc_base.specs.Lines.{lines_of}
 use Rattle.agent_core.specs.Programs.{CoreProgram}
-use Rattle.agent_core.specs.Facts.{IsProgram}
+use Rattle.agent_core.specs.WellFormed.{IsWellFormed}
 use Rattle.agent_core.specs.Strata.{Edge, Each, IsFirstCase, edges, Reaches}
 use Rattle.agent_laws.proofs.ProgramOutputs.{has_output, one_output}
 use Rattle.agent_laws.proofs.Runs.{has_run, one_run}
@@ -56,7 +56,7 @@ one_case_answer p s s' o o' e e' x y =
     (x.is ∙ sym y.is, x.nothing ∙ sym y.nothing, x.line ∙ one_refused_line p x.guard x.told x.node y.guard y.told y.node x.case y.case ∙ sym y.line)
 
 -- the answer of a program to its lines is one
-one_program_answer : (p : CoreProgram) (writing : Writing) (limits : Limits) (lines : List (List ℕ)) (s s' : Status) (o o' e e' : List ℕ) → IsProgram p → ProgramAnswer p writing limits lines s o e → ProgramAnswer p writing limits lines s' o' e' → AreSame s s' o o' e e'
+one_program_answer : (p : CoreProgram) (writing : Writing) (limits : Limits) (lines : List (List ℕ)) (s s' : Status) (o o' e e' : List ℕ) → IsWellFormed p → ProgramAnswer p writing limits lines s o e → ProgramAnswer p writing limits lines s' o' e' → AreSame s s' o o' e e'
 one_program_answer p writing limits lines s s' o o' e e' is (inl x) (inl y) = one_case_answer p s s' o o' e e' x y
 one_program_answer p writing limits lines s s' o o' e e' is (inl x) (inr (table, fits, y)) = absurd (x.case.none table fits)
 one_program_answer p writing limits lines s s' o o' e e' is (inr (table, fits, x)) (inl y) = absurd (y.case.none table fits)
@@ -82,7 +82,7 @@ one_check_answer p s s' o o' e e' x y =
     let tables : x.table ≡ y.table = same_list x.table y.table (λ n lt. x.least y.table y.stratified n (omega arith)) (λ n lt. y.least x.table x.stratified n (omega arith)) (x.stratified.long ∙ sym y.stratified.long) in
     (x.is ∙ sym y.is, x.written ∙ ap (check_text p) tables ∙ sym y.written, x.nothing ∙ sym y.nothing)
 
-one_answer_of : (task : Task) (p : CoreProgram) (bytes : List ℕ) (s s' : Status) (o o' e e' : List ℕ) → IsProgram p → AnswersOf task p bytes s o e → AnswersOf task p bytes s' o' e' → AreSame s s' o o' e e'
+one_answer_of : (task : Task) (p : CoreProgram) (bytes : List ℕ) (s s' : Status) (o o' e e' : List ℕ) → IsWellFormed p → AnswersOf task p bytes s o e → AnswersOf task p bytes s' o' e' → AreSame s s' o o' e e'
 one_answer_of (tasks.Run writing limits) p bytes s s' o o' e e' is x y = one_program_answer p writing limits (lines_of (trace_of bytes)) s s' o o' e e' is x y
 one_answer_of tasks.Check p bytes s s' o o' e e' is (inl x) (inl y) = one_case_answer p s s' o o' e e' x y
 one_answer_of tasks.Check p bytes s s' o o' e e' is (inl x) (inr y) = absurd (x.case.none y.table y.stratified)

@@ -8,7 +8,7 @@ use Rattle.std.proofs.Math.Seq.{take-suc}
 use Rattle.tdcc_base.specs.declared.status.Status.{Status}
 use Rattle.token_system.specs.Stores.{Valuation}
 use Rattle.agent_core.specs.Programs.{CoreProgram}
-use Rattle.agent_core.specs.Facts.{IsProgram}
+use Rattle.agent_core.specs.WellFormed.{IsWellFormed}
 use Rattle.agent_core.specs.Outputs.{IsOutput, IsRun}
 use Rattle.agent_core.specs.Strata.{Stratifies}
 use Rattle.agent_laws.proofs.ProgramOutputs.{one_output}
@@ -103,7 +103,7 @@ module _ (p : CoreProgram) where
   due_not_bad n line fault input due bad = not_bad n line fault (input, due.given) bad
 
   -- where all lines give inputs, and a run on these keeps the limits, no front of it ends at a line
-  pub front_goes_on : (table : List ℕ) → IsProgram p → Stratifies p table → (limits : Limits) (ins outs : List Valuation) (n : ℕ) (line : List ℕ) (end : End) → IsRun p ins outs → length ins ≤ 65536 → KeepsLimits p limits outs → n < length ins
+  pub front_goes_on : (table : List ℕ) → IsWellFormed p → Stratifies p table → (limits : Limits) (ins outs : List Valuation) (n : ℕ) (line : List ℕ) (end : End) → IsRun p ins outs → length ins ≤ 65536 → KeepsLimits p limits outs → n < length ins
       → (i : Valuation) → slice_get ins n ≡ Some i → GivesInput p line i → EndsAt p limits (take n outs) line end → ⊥
   front_goes_on table is strat limits ins outs n line ends.Whole run few within lt i at given h = h
   front_goes_on table is strat limits ins outs n line (ends.Line fault) run few within lt i at given h = not_bad (length (take n outs)) line fault (i, given) h
@@ -133,7 +133,7 @@ module _ (p : CoreProgram) where
       let fuel = within.fuel in
       omega arith
 
-  module _ (table : List ℕ) (is : IsProgram p) (strat : Stratifies p table) (limits : Limits) where
+  module _ (table : List ℕ) (is : IsWellFormed p) (strat : Stratifies p table) (limits : Limits) where
     -- a run ends in one way at a line
     same_at : (outs : List Valuation) (line : List ℕ) (e e' : End) → EndsAt p limits outs line e → EndsAt p limits outs line e' → e ≡ e'
     same_at outs line ends.Whole e' h h' = absurd h
@@ -188,7 +188,7 @@ module _ (p : CoreProgram) where
   same_front (l ∷ lines) (i ∷ a) (j ∷ b) x y le =
       ap (λ (k : Valuation). k ∷ a) (one_input p l i j x.0 y.0) ∙ ap (λ (ks : List Valuation). j ∷ ks) (same_front lines a b x.1 y.1 (let h : length a ≤ length b = omega arith in h))
 
-  module _ (is : IsProgram p) (table : List ℕ) (strat : Stratifies p table) (writing : Writing) (limits : Limits) (lines : List (List ℕ)) where
+  module _ (is : IsWellFormed p) (table : List ℕ) (strat : Stratifies p table) (writing : Writing) (limits : Limits) (lines : List (List ℕ)) where
     abbrev IsAnswer : Status → List ℕ → List ℕ → Type 0
     IsAnswer s o e = RunAnswer p writing limits lines s o e
 

@@ -13,7 +13,7 @@ use Rattle.agent_core.specs.Programs.{CoreProgram}
 use Rattle.agent_core.specs.Outputs.{IsRun}
 use Rattle.agent_core.specs.Strata.{Stratifies}
 use Rattle.agent_laws.proofs.Runs.{one_run}
-use Rattle.agent_core.specs.Facts.{IsProgram}
+use Rattle.agent_core.specs.WellFormed.{IsWellFormed}
 use Rattle.command_words.specs.declared.command.Command.{Command}
 use Rattle.command_words.specs.declared.command.Command.TheVariants as commands
 use Rattle.command_words.specs.declared.settings.Limits.{Limits}
@@ -42,7 +42,7 @@ module _ (p : CoreProgram) where
   given_at (l ∷ lines) (i ∷ ins) (suc n) line all e = let h = given_at lines ins n line all.1 e in let lt = h.0 in (omega arith, h.1, h.2, h.3)
 
   -- such a run ends at the end of the trace
-  ends_whole : (table : List ℕ) → IsProgram p → Stratifies p table → (limits : Limits) (lines : List (List ℕ)) (ins outs : List Valuation) (n : ℕ) (e : End) → GiveInputs p lines ins → IsRun p ins outs → length ins ≤ 65536 → KeepsLimits p limits outs → n ≤ length ins
+  ends_whole : (table : List ℕ) → IsWellFormed p → Stratifies p table → (limits : Limits) (lines : List (List ℕ)) (ins outs : List Valuation) (n : ℕ) (e : End) → GiveInputs p lines ins → IsRun p ins outs → length ins ≤ 65536 → KeepsLimits p limits outs → n ≤ length ins
       → EndsBy p limits lines (take n outs) e → e ≡ ends.Whole
   ends_whole table is strat limits lines ins outs n e all run few within le (inl h) = h.0
   ends_whole table is strat limits lines ins outs n e all run few within le (inr (line, at, ends)) =

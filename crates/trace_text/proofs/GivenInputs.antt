@@ -14,7 +14,7 @@ use Rattle.token_system.specs.Stores.{Valuation, value_at, told}
 use Rattle.agent_core.specs.declared.node.CellDecl.{CellDecl}
 use Rattle.agent_core.specs.Agents.{Constraint}
 use Rattle.agent_core.specs.Programs.{CoreProgram}
-use Rattle.agent_core.specs.Scope.{AskFits}
+use Rattle.agent_core.specs.Scope.{ConstraintFits}
 use Rattle.agent_core.specs.Rests.{entails}
 use Rattle.agent_core.specs.Tellings.{tell_at, tell_all}
 use Rattle.agent_core.proofs.OneStore.{Below-antisym}
@@ -43,7 +43,7 @@ told_declared s k c t only = go (value_eq (value_with (value_at s (Declared k) c
     go true = only
     go false = one_more_declared s k (value_with (value_at s (Declared k) c) t) only
 
-tell_all_declared : (p : CoreProgram) (ask : Constraint) (s : Valuation) → AskFits p [] ask → DeclaredOnly s → DeclaredOnly (tell_all p [] ask s)
+tell_all_declared : (p : CoreProgram) (ask : Constraint) (s : Valuation) → ConstraintFits p [] ask → DeclaredOnly s → DeclaredOnly (tell_all p [] ask s)
 tell_all_declared p [] s fits only = only
 tell_all_declared p (pair ∷ ask) s fits only = tell_all_declared p ask (tell_at (slice_get p.cells pair.0) p [] s pair.0 pair.1) fits.1 (go (slice_get p.cells pair.0))
   where

@@ -16,7 +16,7 @@ use Rattle.token_system.specs.Stores.{Valuation, value_at, store_entails}
 use Rattle.token_system.proofs.Adding.{bottom_covered}
 use Rattle.agent_core.specs.declared.node.CellDecl.{CellDecl}
 use Rattle.agent_core.specs.Agents.{Constraint}
-use Rattle.agent_core.specs.Facts.{IsProgram}
+use Rattle.agent_core.specs.WellFormed.{IsWellFormed}
 use Rattle.agent_core.specs.Programs.{CoreProgram}
 use Rattle.agent_core.specs.Rests.{holds, holds_at, entails}
 use Rattle.agent_core.specs.Stores.{IsStore, IsInput, Below}
@@ -177,7 +177,7 @@ module _ (p : CoreProgram) (names : HasOwnNames p) (i : Valuation) (is : IsStore
       (cells_tell u (suc n) ds (later_cells p n d ds are) (second_of_both (entails p [] u (cell_ask n (own_tokens n d i))) (entails p [] u (all_tokens (suc n) ds i)) split) j e at)
 
 -- the line of a store has 23,039 bytes at most
-pub line_short : (p : CoreProgram) (i : Valuation) → IsProgram p → HasOwnNames p → IsStore p i → length (store_line p i) ≤ 23039
+pub line_short : (p : CoreProgram) (i : Valuation) → IsWellFormed p → HasOwnNames p → IsStore p i → length (store_line p i) ≤ 23039
 line_short p i program names is = go (cell_texts 0 (take p.declared p.cells) i) whole
   where
     whole : length (spaced (cell_texts 0 (take p.declared p.cells) i)) ≤ 23040
@@ -207,7 +207,7 @@ input_below p i u names input iu h (Local m births) d t named fits entailed = go
     go (Some v) e at_value = let own = input.declared (Local m births) v e in let same : Local m births ≡ Declared own.0 = own.1 in absurd (cc)
 
 -- the line of a store gives the part of it over the declared cells
-pub line_read : (p : CoreProgram) (v i : Valuation) → IsProgram p → HasOwnNames p → IsDeclaredPart p v i → GivesInput p (store_line p v) i
+pub line_read : (p : CoreProgram) (v i : Valuation) → IsWellFormed p → HasOwnNames p → IsDeclaredPart p v i → GivesInput p (store_line p v) i
 line_read p v i program names part =
     let cells : List CellDecl = take p.declared p.cells in
     let line : store_line p v ≡ store_line p i = ap (join_with_byte 32) (cells_same p v i part.same 0 (take p.declared p.cells) (declared_cells p)) in
@@ -221,7 +221,7 @@ line_read p v i program names part =
     })
 
 -- two inputs have two lines
-pub line_one : (p : CoreProgram) (v w : Valuation) → IsProgram p → HasOwnNames p → IsInput p v → IsInput p w → store_line p v ≡ store_line p w → v ≡ w
+pub line_one : (p : CoreProgram) (v w : Valuation) → IsWellFormed p → HasOwnNames p → IsInput p v → IsInput p w → store_line p v ≡ store_line p w → v ≡ w
 line_one p v w program names iv iw e =
     one_input p (store_line p w) v w
     (subst (λ (bytes : List ℕ). GivesInput p bytes v) e (line_read p v v program names (record { input = iv; same = λ n lt. refl })))

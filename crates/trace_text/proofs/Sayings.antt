@@ -10,14 +10,14 @@ use Rattle.token_system.proofs.OneReading.{one_reading}
 use Rattle.agent_core.specs.declared.node.CellDecl.{CellDecl}
 use Rattle.agent_core.specs.Agents.{Constraint}
 use Rattle.agent_core.specs.Programs.{CoreProgram}
-use Rattle.agent_core.specs.Scope.{AskFits}
+use Rattle.agent_core.specs.Scope.{ConstraintFits}
 use Rattle.agent_core.specs.Tellings.{tell_at, tell_all}
 use Rattle.agent_core.proofs.Bools.{first_of_both, second_of_both}
 use Rattle.trace_text.specs.Pieces.{Piece}
 use Rattle.trace_text.specs.Inputs.{cell_named, name_in, ask_of, tokens_of, fits_if_some, text_fits, Says, SayAll}
 use Rattle.trace_text.proofs.DeclaredTokens.{declared_fits, named_within}
 
-pub AskFits-append : (p : CoreProgram) (b : List ℕ) (xs ys : Constraint) → AskFits p b xs → AskFits p b ys → AskFits p b (xs ++ ys)
+pub AskFits-append : (p : CoreProgram) (b : List ℕ) (xs ys : Constraint) → ConstraintFits p b xs → ConstraintFits p b ys → ConstraintFits p b (xs ++ ys)
 AskFits-append p b [] ys f g = g
 AskFits-append p b (x ∷ xs) ys f g = (f.0, AskFits-append p b xs ys f.1 g)
 
@@ -26,21 +26,21 @@ tell_all-append p b [] ys u = refl
 tell_all-append p b (x ∷ xs) ys u = tell_all-append p b xs ys (tell_at (slice_get p.cells x.0) p b u x.0 x.1)
 
 -- the tokens of a text that names a declared cell and fits it
-tokens_fit : (p : CoreProgram) (cell : ℕ) (d : CellDecl) (w : Written) → cell < p.declared → slice_get p.cells cell ≡ Some d → IsTrue (text_fits d.cell w) → AskFits p [] (tokens_of cell w)
+tokens_fit : (p : CoreProgram) (cell : ℕ) (d : CellDecl) (w : Written) → cell < p.declared → slice_get p.cells cell ≡ Some d → IsTrue (text_fits d.cell w) → ConstraintFits p [] (tokens_of cell w)
 tokens_fit p cell d w lt found fits =
     (declared_fits p cell d w.first lt found (first_of_both (token_fits d.cell w.first) (fits_if_some d.cell w.second) fits), second w.second (second_of_both (token_fits d.cell w.first) (fits_if_some d.cell w.second) fits))
   where
-    second : (o : Option Token) → IsTrue (fits_if_some d.cell o) → AskFits p [] (ask_of cell o)
+    second : (o : Option Token) → IsTrue (fits_if_some d.cell o) → ConstraintFits p [] (ask_of cell o)
     second None h = tt
     second (Some t) h = (declared_fits p cell d t lt found h, tt)
 
-pub says_fit : (p : CoreProgram) (bytes : List ℕ) (tokens : Constraint) → Says p bytes tokens → AskFits p [] tokens
+pub says_fit : (p : CoreProgram) (bytes : List ℕ) (tokens : Constraint) → Says p bytes tokens → ConstraintFits p [] tokens
 says_fit p bytes tokens s =
-    subst (AskFits p []) (sym s.meant) (tokens_fit p s.cell s.decl s.written (named_within p (name_in bytes s.written) s.cell s.decl s.names.named) s.names.found s.fits)
+    subst (ConstraintFits p []) (sym s.meant) (tokens_fit p s.cell s.decl s.written (named_within p (name_in bytes s.written) s.cell s.decl s.names.named) s.names.found s.fits)
 
-pub say_all_fit : (p : CoreProgram) (all : List Piece) (tokens : Constraint) → SayAll p all tokens → AskFits p [] tokens
-say_all_fit p [] tokens h = subst (AskFits p []) (sym h) tt
-say_all_fit p (x ∷ all) tokens (first, rest, here, later, e) = subst (AskFits p []) (sym e) (AskFits-append p [] first rest (says_fit p x.bytes first here) (say_all_fit p all rest later))
+pub say_all_fit : (p : CoreProgram) (all : List Piece) (tokens : Constraint) → SayAll p all tokens → ConstraintFits p [] tokens
+say_all_fit p [] tokens h = subst (ConstraintFits p []) (sym h) tt
+say_all_fit p (x ∷ all) tokens (first, rest, here, later, e) = subst (ConstraintFits p []) (sym e) (AskFits-append p [] first rest (says_fit p x.bytes first here) (say_all_fit p all rest later))
 
 pub say_all-append : (p : CoreProgram) (xs ys : List Piece) (s t : Constraint) → SayAll p xs s → SayAll p ys t → SayAll p (xs ++ ys) (s ++ t)
 say_all-append p [] ys s t a b = subst (λ (z : Constraint). SayAll p ys (z ++ t)) (sym a) b

@@ -1,7 +1,7 @@
 //! Telling the tokens of a piece to a store.
 ghost use Rattle.std.specs.Prelude.{◌≡◌, [], OnOk};
 ghost use Rattle.agent_core.specs.Stores.{IsStore};
-ghost use Rattle.agent_core.specs.Scope.{TokenFits, AskFits};
+ghost use Rattle.agent_core.specs.Scope.{TokenFits, ConstraintFits};
 ghost use Rattle.agent_core.specs.Tellings.{tell_all};
 ghost use Rattle.trace_text.specs.Inputs.{tokens_of};
 ghost use Rattle.trace_text.specs.Tellings.{told_one};
@@ -26,7 +26,7 @@ pub fn tell_written(
     written: Written,
     store: &mut Store,
 ) -> Result<(), Memory>
-    requires fits { AskFits program.now [] (tokens_of cell written) }
+    requires fits { ConstraintFits program.now [] (tokens_of cell written) }
     requires store { IsStore program.now store.old }
     ensures { OnOk result (store.new ≡ tell_all program.now [] (tokens_of cell written) store.old) }
 {

@@ -1,6 +1,6 @@
 //! How a net is made: its leaves, its cells, and its guards.
 ghost use Rattle.std.specs.Prelude.{◌≡◌, IfOk};
-ghost use Rattle.agent_core.specs.Facts.{IsProgram};
+ghost use Rattle.agent_core.specs.WellFormed.{IsWellFormed};
 
 use super::{SIGNAL, first_roots, on, over_cells, rising_levels};
 use crate::collecting::net_cells;
@@ -15,7 +15,7 @@ use token_system::{Births, CellName, Token};
 
 /// `signal a; a || a`.
 fn twice(alloc: Global) -> Result<Program, Fail>
-    ensures { IfOk result IsProgram }
+    ensures { IfOk result IsWellFormed }
 {
     let mut nodes = Vec::new(alloc);
     nodes.push(Node::Par { left: 1, right: 2 })?;
@@ -26,7 +26,7 @@ fn twice(alloc: Global) -> Result<Program, Fail>
 
 /// `signal a, b; if a then if b else new signal s in {s || if s then b}`.
 pub(super) fn nested(alloc: Global) -> Result<Program, Fail>
-    ensures { IfOk result IsProgram }
+    ensures { IfOk result IsWellFormed }
 {
     let mut nodes = Vec::new(alloc);
     nodes.push(Node::Then {
@@ -50,7 +50,7 @@ pub(super) fn nested(alloc: Global) -> Result<Program, Fail>
 
 /// `new signal r in {new signal s in s || r}`.
 fn new_in_new(alloc: Global) -> Result<Program, Fail>
-    ensures { IfOk result IsProgram }
+    ensures { IfOk result IsWellFormed }
 {
     let mut nodes = Vec::new(alloc);
     nodes.push(Node::New { cell: 0, body: 1 })?;

@@ -1,6 +1,6 @@
 //! What is read off a net with a part of each kind.
 ghost use Rattle.std.specs.Prelude.{◌≡◌, IfOk};
-ghost use Rattle.agent_core.specs.Facts.{IsProgram};
+ghost use Rattle.agent_core.specs.WellFormed.{IsWellFormed};
 
 use super::{SIGNAL, all, first_roots, on, over_cells};
 use crate::{Atom, Net, open_net};
@@ -40,7 +40,7 @@ fn push_below(alloc: Global, nodes: &mut Vec<Node>) -> Result<(), Fail> {
 /// `signal a; int n in 0..7; skip || {a || if a then {{if n >= 5 & a else new int m in 0..7 in {#m & n <= 4 || {hence m
 /// <= 6 || next skip}}} || n >= 5}}`: a is cell 0, n is cell 1 and m is cell 2.
 fn each_kind(alloc: Global) -> Result<Program, Fail>
-    ensures { IfOk result IsProgram }
+    ensures { IfOk result IsWellFormed }
 {
     let mut nodes = Vec::new(alloc);
     nodes.push(Node::Par { left: 1, right: 2 })?;

@@ -6,7 +6,7 @@ use Rattle.token_system.specs.Stores.{Valuation}
 use Rattle.agent_core.specs.declared.node.Node.TheVariants as nodes
 use Rattle.agent_core.specs.Names.{IsClosure}
 use Rattle.agent_core.specs.Stores.{IsStore}
-use Rattle.agent_core.specs.Observed.{suffixes, obs}
+use Rattle.agent_core.specs.RestsAfter.{suffixes, obs}
 use Rattle.agent_core.proofs.RestTests.{same_answer, node_found, own_ask_fits, left_of, right_of, then_body, else_body, new_body, hence_body, next_body}
 use Rattle.agent_core.proofs.ObservedTests.{always-obs, left-not, right-decides, then-waits, then-decides, else-refuted, else-decides, new-obs, next-obs, hence-obs, AreLeft-next}
 use Rattle.agent_core.proofs.observing.+node_obs.Goals as goal

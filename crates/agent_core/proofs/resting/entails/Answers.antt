@@ -1,11 +1,11 @@
 use Rattle.std.proofs.Common.{refl, sym, subst}
 use Rattle.token_system.specs.declared.cell.Token.TheVariants.{On}
-use Rattle.agent_core.specs.Scope.{AskFits}
+use Rattle.agent_core.specs.Scope.{ConstraintFits}
 use Rattle.agent_core.proofs.AskTests.{next_fits, IsLeft-next, one_fails, all_hold}
 use Rattle.agent_core.proofs.resting.entails.Goals as goal
 
 pub loop-cell-init : goal.loop-cell-init
-loop-cell-init c = record { same = refl; fits = subst (AskFits c.args.program.now c.args.births.now) (sym c.list-cell-items.ensures.all) c.requires.fits }
+loop-cell-init c = record { same = refl; fits = subst (ConstraintFits c.args.program.now c.args.births.now) (sym c.list-cell-items.ensures.all) c.requires.fits }
 
 pub holds-requires-clause-fits : goal.holds-requires-clause-fits
 holds-requires-clause-fits c =

@@ -1,11 +1,11 @@
 use Rattle.std.proofs.Common.{refl, sym, subst}
 use Rattle.token_system.specs.declared.cell.Token.TheVariants.{On}
-use Rattle.agent_core.specs.Scope.{AskFits}
+use Rattle.agent_core.specs.Scope.{ConstraintFits}
 use Rattle.agent_core.proofs.AskTests.{next_fits, IsLeft-next, one_fails, all_hold}
 use Rattle.denotation_laws.proofs.asks.has_all.Goals as goal
 
 pub loop-cell-init : goal.loop-cell-init
-loop-cell-init c = record { same = refl; fits = subst (AskFits c.args.program.now c.args.births.now) (sym c.list-cell-items.ensures.all) c.requires.fits }
+loop-cell-init c = record { same = refl; fits = subst (ConstraintFits c.args.program.now c.args.births.now) (sym c.list-cell-items.ensures.all) c.requires.fits }
 
 pub has-requires-clause-fits : goal.has-requires-clause-fits
 has-requires-clause-fits c =

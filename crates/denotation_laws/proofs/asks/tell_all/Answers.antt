@@ -1,13 +1,13 @@
 use Rattle.std.proofs.Common.{refl, sym, subst}
 use Rattle.token_system.specs.declared.cell.Token.TheVariants.{On}
-use Rattle.agent_core.specs.Scope.{AskFits}
+use Rattle.agent_core.specs.Scope.{ConstraintFits}
 use Rattle.denotation_laws.proofs.Tellings.{token_fits, token-told, all-told}
 use Rattle.denotation_laws.proofs.asks.tell_all.Goals as goal
 
 pub loop-cell-init : goal.loop-cell-init
 loop-cell-init c = record {
   same = refl;
-  fits = subst (AskFits c.args.program.now c.args.births.now) (sym c.list-cell-items.ensures.all) c.requires.fits;
+  fits = subst (ConstraintFits c.args.program.now c.args.births.now) (sym c.list-cell-items.ensures.all) c.requires.fits;
   store = c.requires.store;
 }
 

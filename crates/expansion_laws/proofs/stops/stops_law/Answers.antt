@@ -1,6 +1,6 @@
 -- The surface is well formed and its expansion a program, so its free watchings stop for good.
 use Rattle.std.proofs.Common.{◌≡◌, ◌-◌, [], length, refl, sym, subst, ◌∙◌}
-use Rattle.agent_core.specs.Facts.{count_up}
+use Rattle.agent_core.specs.WellFormed.{count_up}
 use Rattle.tdcc_reader.specs.Trees.{Tree}
 use Rattle.surface_laws.specs.Surfaces.{IsScopedTree, bare, new_cells}
 use Rattle.expansion_laws.proofs.OneTree.{one_tree}

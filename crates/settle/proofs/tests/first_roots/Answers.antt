@@ -3,7 +3,7 @@ use Rattle.std.specs.List.Sorted.{IsStrictlySortedBy}
 use Rattle.std.proofs.lemmas.List.Elements.{All-cons, All-nil}
 use Rattle.agent_core.specs.declared.node.Closure.{Closure}
 use Rattle.agent_core.specs.Closures.{closure_cmp}
-use Rattle.agent_core.specs.Facts.{IsProgram}
+use Rattle.agent_core.specs.WellFormed.{IsWellFormed}
 use Rattle.agent_core.specs.Names.{IsClosure}
 use Rattle.agent_core.specs.Programs.{CoreProgram}
 use Rattle.agent_core.proofs.Scopes.{root-IsClosure}
@@ -14,7 +14,7 @@ use Rattle.settle.proofs.tests.first_roots.Goals as goal
 one : (rs front : List Closure) (x : Closure) → rs ≡ front ++ x ∷ [] → front ≡ [] → rs ≡ x ∷ []
 one rs front x e f = e ∙ ap (λ ys. ys ++ x ∷ []) f
 
-one-closure : (p : CoreProgram) → IsProgram p → (rs front : List Closure) (b : List ℕ) → rs ≡ front ++ record { node = 0; births = b } ∷ [] → front ≡ [] → b ≡ [] → AreClosures p rs
+one-closure : (p : CoreProgram) → IsWellFormed p → (rs front : List Closure) (b : List ℕ) → rs ≡ front ++ record { node = 0; births = b } ∷ [] → front ≡ [] → b ≡ [] → AreClosures p rs
 one-closure p is rs front b e f g =
     subst (AreClosures p) (sym (one rs front (record { node = 0; births = b }) e f))
     (All-cons (λ r. IsClosure p r.node r.births) (record { node = 0; births = b }) [] (subst (IsClosure p 0) (sym g) (root-IsClosure p is)) (All-nil (λ r. IsClosure p r.node r.births)))

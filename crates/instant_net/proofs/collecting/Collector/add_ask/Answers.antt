@@ -2,7 +2,7 @@ use Rattle.std.proofs.Common.{◌≤◌, ◌+◌, take, get_or, ap, ◌∙◌, a
 use Rattle.std.specs.BTreeSet.{BTreeSet}
 use Rattle.token_system.specs.declared.name.CellName.{CellName}
 use Rattle.token_system.specs.declared.cell.Token.TheVariants.{On}
-use Rattle.agent_core.specs.Scope.{AskFits}
+use Rattle.agent_core.specs.Scope.{ConstraintFits}
 use Rattle.instant_net.specs.Collecting.{AddsAsked}
 use Rattle.instant_net.specs.Covering.{CoversAsk}
 use Rattle.instant_net.proofs.Covering.{asks-none, asks-declared, asks-local}
@@ -16,7 +16,7 @@ pub loop-cell-init : goal.loop-cell-init
 loop-cell-init c = record {
   added = asked-none c.args.self.now.program.now c.args.births.now c.args.ask.now c.args.names.now.keys;
   covered = asks-none c.args.self.now.program.now c.args.births.now c.list-cell-items.result.now c.args.names.now.keys;
-  fits = subst (AskFits c.args.self.now.program.now c.args.births.now) (sym c.list-cell-items.ensures.all) c.requires.fits;
+  fits = subst (ConstraintFits c.args.self.now.program.now c.args.births.now) (sym c.list-cell-items.ensures.all) c.requires.fits;
 }
 
 pub local_of-local-requires-clause-cell : goal.local_of-local-requires-clause-cell

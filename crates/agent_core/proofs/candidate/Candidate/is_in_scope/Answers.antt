@@ -2,7 +2,7 @@ use Rattle.std.proofs.Common.{length, refl}
 use Rattle.std.proofs.lemmas.Option.{slice_get_read, slice_get_past}
 use Rattle.agent_core.specs.Drafts.{core_of, locals_of}
 use Rattle.agent_core.proofs.ScopeTests.{token_scoped, no_cell}
-use Rattle.agent_core.proofs.draft.Draft.is_in_scope.Goals as goal
+use Rattle.agent_core.proofs.candidate.Candidate.is_in_scope.Goals as goal
 
 pub returns-in-Some : goal.returns-in-Some
 returns-in-Some c =

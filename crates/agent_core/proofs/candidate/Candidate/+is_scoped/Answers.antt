@@ -1,7 +1,7 @@
 use Rattle.std.proofs.Common.{refl, arith}
 use Rattle.agent_core.specs.Drafts.{core_of, locals_of}
 use Rattle.agent_core.proofs.ScopeTests.{ask_body-behind, later_body-behind, new_body-behind, left-behind, right-behind, skip_scoped, tell_scoped, ask_scoped, ask_not_scoped, par_scoped, par_not_scoped, new_scoped, later_scoped}
-use Rattle.agent_core.proofs.draft.Draft.+is_scoped.Goals as goal
+use Rattle.agent_core.proofs.candidate.Candidate.+is_scoped.Goals as goal
 
 pub is_scoped-requires : goal.is_scoped-requires
 is_scoped-requires t c =

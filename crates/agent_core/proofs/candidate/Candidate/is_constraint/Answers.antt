@@ -3,7 +3,7 @@ use Rattle.std.proofs.lemmas.Bool.{false≢true}
 use Rattle.token_system.specs.declared.cell.Token.TheVariants.{On}
 use Rattle.agent_core.specs.Drafts.{core_of, locals_of}
 use Rattle.agent_core.proofs.ScopeTests.{ask_goes_on, ask_fails, ask_ends}
-use Rattle.agent_core.proofs.draft.Draft.is_constraint.Goals as goal
+use Rattle.agent_core.proofs.candidate.Candidate.is_constraint.Goals as goal
 
 pub loop-cell-init : goal.loop-cell-init
 loop-cell-init c = (λ h. h, λ h. h)

@@ -1,7 +1,7 @@
 ghost use Rattle.std.specs.Prelude.{◌≡◌, ◌≤◌, ◌<◌, ◌-◌, ◌↔◌, ◌⊎◌, IsTrue, length, filter_map};
 ghost use Rattle.agent_core.specs.Agents.{agent_at};
 ghost use Rattle.agent_core.specs.Listing.{IsListing};
-ghost use Rattle.agent_core.specs.Facts.{IsAmong, IsInScope, IsConstraint, IsWithinLimits, Scoped, IsProgram, cell_of, count_up};
+ghost use Rattle.agent_core.specs.WellFormed.{IsAmong, IsInScope, IsConstraint, IsWithinLimits, Scoped, IsWellFormed, cell_of, count_up};
 ghost use Rattle.agent_core.specs.Drafts.{locals_of, core_of};
 
 use crate::node::{CellDecl, Constraint, Node};
@@ -28,13 +28,13 @@ impl Around<'_> {
 
 /// Cells and nodes of which it is not known yet whether they make a program.
 #[derive(Clone, Copy)]
-pub(crate) struct Draft<'a> {
+pub(crate) struct Candidate<'a> {
     pub cells: &'a [CellDecl],
     pub declared: u32,
     pub nodes: &'a [Node],
 }
 
-impl Draft<'_> {
+impl Candidate<'_> {
     /// Whether the cell is declared, or a local one around the place.
     fn is_visible(self, around: &Around, cell: u32) -> bool
         ensures { IsTrue result ↔ ((cell < self.entry.declared) ⊎ IsAmong (locals_of around.now) cell) }
@@ -123,7 +123,7 @@ impl Draft<'_> {
     /// Whether these make a program.
     #[tactic(auto, using(crate::proofs::ListingTrees::has_node))]
     pub fn is_program(self) -> bool
-        ensures { IsTrue result ↔ IsProgram (core_of self.entry) }
+        ensures { IsTrue result ↔ IsWellFormed (core_of self.entry) }
     {
         self.is_within_limits()
             && is_preorder(self.nodes)

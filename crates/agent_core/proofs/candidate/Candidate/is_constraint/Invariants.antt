@@ -1,8 +1,8 @@
 use Rattle.std.proofs.Common.{drop}
 use Rattle.std.specs.Prelude.{◌↔◌}
 use Rattle.agent_core.specs.Drafts.{core_of, locals_of}
-use Rattle.agent_core.specs.Facts.{AreInScope}
-use Rattle.agent_core.proofs.draft.Draft.is_constraint.Given as goal
+use Rattle.agent_core.specs.WellFormed.{AreInScope}
+use Rattle.agent_core.proofs.candidate.Candidate.is_constraint.Given as goal
 
 -- all are in scope where those that are left are
 abbrev pub invariant-loop-cell : goal.invariant-loop-cell

@@ -1,5 +1,5 @@
 use Rattle.std.proofs.Common.{◌-◌, length}
-use Rattle.agent_core.proofs.draft.Draft.+is_scoped.Given as goal
+use Rattle.agent_core.proofs.candidate.Candidate.+is_scoped.Given as goal
 
 abbrev pub decreases-is_scoped : goal.decreases-is_scoped
 decreases-is_scoped l = length l.self.nodes.now - l.n

@@ -13,17 +13,17 @@ suffixes [] = [] ∷ []
 suffixes (w ∷ z) = (w ∷ z) ∷ suffixes z
 
 -- the agent was started at instant s under births b, z are the closed stores since s, and it rests now under (u, v)
-abbrev pub agent_obs : CoreProgram → Valuation → Valuation → List Valuation → Agent → List ℕ → ℕ → Bool
-agent_obs p u v [] a b s = agent_rests p s v a b u
-agent_obs p u v (w ∷ z) Skip b s = true
-agent_obs p u v (w ∷ z) (Tell c) b s = true
-agent_obs p u v (w ∷ z) (Par a a') b s = agent_obs p u v (w ∷ z) a b s && agent_obs p u v (w ∷ z) a' b s
-agent_obs p u v (w ∷ z) (Then c a) b s = entails p b w c ⇒ agent_obs p u v (w ∷ z) a b s
-agent_obs p u v (w ∷ z) (Else c a) b s = not (entails p b w c) ⇒ agent_obs p u v (w ∷ z) a b s
-agent_obs p u v (w ∷ z) (New cell a) b s = agent_obs p u v (w ∷ z) a (b ++ s ∷ []) s
-agent_obs p u v (w ∷ z) (Next a) b s = agent_obs p u v z a b (s + 1)
-agent_obs p u v (w ∷ z) (Hence a) b s = list_all (λ y. agent_obs p u v y a b (s + 1 + length z - length y)) (suffixes z)
+abbrev pub rests_after : CoreProgram → Valuation → Valuation → List Valuation → Agent → List ℕ → ℕ → Bool
+rests_after p u v [] a b s = agent_rests p s v a b u
+rests_after p u v (w ∷ z) Skip b s = true
+rests_after p u v (w ∷ z) (Tell c) b s = true
+rests_after p u v (w ∷ z) (Par a a') b s = rests_after p u v (w ∷ z) a b s && rests_after p u v (w ∷ z) a' b s
+rests_after p u v (w ∷ z) (Then c a) b s = entails p b w c ⇒ rests_after p u v (w ∷ z) a b s
+rests_after p u v (w ∷ z) (Else c a) b s = not (entails p b w c) ⇒ rests_after p u v (w ∷ z) a b s
+rests_after p u v (w ∷ z) (New cell a) b s = rests_after p u v (w ∷ z) a (b ++ s ∷ []) s
+rests_after p u v (w ∷ z) (Next a) b s = rests_after p u v z a b (s + 1)
+rests_after p u v (w ∷ z) (Hence a) b s = list_all (λ y. rests_after p u v y a b (s + 1 + length z - length y)) (suffixes z)
 
 -- the same of the node with this number
 abbrev pub obs : CoreProgram → ℕ → List ℕ → ℕ → List Valuation → Valuation → Valuation → Bool
-obs p n b s z u v = agent_obs p u v z (agent_at p.nodes n) b s
+obs p n b s z u v = rests_after p u v z (agent_at p.nodes n) b s

@@ -1,8 +1,8 @@
 use Rattle.std.proofs.Common.{inl, inr, length, sym, ◌∙◌, subst, ◌+◌}
 use Rattle.std.proofs.lemmas.Bool.{false≢true}
 use Rattle.agent_core.proofs.NewsInOrder.{Counted, Counted-begins, Counted-other, Counted-new, Counted-not, Counted-ends}
-use Rattle.agent_core.proofs.draft.Draft.has_news_in_order.Goals as goal
-use Rattle.agent_core.proofs.draft.Draft.has_news_in_order.Goals.{then-next-self-via-then-next-self, then-next-self-via-else-next-self+then-cell-next, in-New+else-next-self+else-cell-next, in_default}
+use Rattle.agent_core.proofs.candidate.Candidate.has_news_in_order.Goals as goal
+use Rattle.agent_core.proofs.candidate.Candidate.has_news_in_order.Goals.{then-next-self-via-then-next-self, then-next-self-via-else-next-self+then-cell-next, in-New+else-next-self+else-cell-next, in_default}
 
 pub loop-node-init : goal.loop-node-init
 loop-node-init c = Counted-begins c.args.self.nodes.now c.args.self.declared (length c.args.self.cells.now) c.requires

@@ -60,7 +60,7 @@ pub record IsWithinLimits (p : CoreProgram) : Type 0 where
   pub within : p.declared ≤ length p.cells
 
 -- the nodes are one tree; the cells of the new nodes are the local cells, in order; each constraint is in scope; and the limits are kept
-pub record IsProgram (p : CoreProgram) : Type 0 where
+pub record IsWellFormed (p : CoreProgram) : Type 0 where
   pub tree : IsListing p.nodes
   pub locals : filter_map cell_of p.nodes ≡ count_up p.declared (length p.cells - p.declared)
   pub scoped : Scoped p [] (agent_at p.nodes 0)
