@@ -12,7 +12,7 @@ use Rattle.token_system.specs.declared.cell.Value.TheVariants as values
 use Rattle.token_system.specs.declared.name.CellName.{CellName}
 use Rattle.token_system.specs.Tokens.{Fits, fits_kind}
 use Rattle.token_system.specs.Values.{OfOneKind, WithinDomain}
-use Rattle.token_system.specs.Stores.{Valuation, value_at, store_entails, CanHold}
+use Rattle.token_system.specs.Stores.{StoreMap, value_at, store_entails, CanHold}
 use Rattle.token_system.proofs.Alike.{true_false}
 use Rattle.agent_core.specs.declared.node.CellDecl.{CellDecl}
 use Rattle.agent_core.specs.Programs.{CoreProgram}
@@ -40,13 +40,13 @@ one_kind kinds.Signal least most (values.Number a b) t w f = absurd w
 one_kind kinds.Number least most (values.Signal a b) t w f = absurd w
 
 -- a store of a program can hold each token that fits
-pub can_hold : (p : CoreProgram) (u : Valuation) (n : CellName) (d : CellDecl) (t : Token) → IsStore p u → Names p n d → Fits d.cell t → CanHold u n d.cell t
+pub can_hold : (p : CoreProgram) (u : StoreMap) (n : CellName) (d : CellDecl) (t : Token) → IsStore p u → Names p n d → Fits d.cell t → CanHold u n d.cell t
 can_hold p u n d t is named fits =
     let value = value_at-fits p u n d is named in
     record { fits = fits; kind = one_kind d.cell.kind d.cell.lo d.cell.hi (value_at u n d.cell) t value.0 fits; proper = value.1 }
 
 -- where a cell's name and declaration were read
-module _ (p : CoreProgram) (b : List ℕ) (u : Valuation) (cell : ℕ) (t : Token) (is : IsStore p u) (f : TokenFits p b (cell, t)) (n : CellName) (named : n ≡ name_of p b cell)
+module _ (p : CoreProgram) (b : List ℕ) (u : StoreMap) (cell : ℕ) (t : Token) (is : IsStore p u) (f : TokenFits p b (cell, t)) (n : CellName) (named : n ≡ name_of p b cell)
     (all : List CellDecl) (same : all ≡ p.cells) (d : CellDecl) (read : d ≡ get_or all cell d) where
   decl_is : d ≡ f.decl
   decl_is = read ∙ ap (λ (xs : List CellDecl). get_or xs cell d) same ∙ get_or_from_slice_get p.cells cell f.decl d f.found
@@ -63,11 +63,11 @@ module _ (p : CoreProgram) (b : List ℕ) (u : Valuation) (cell : ℕ) (t : Toke
       ∙ ap (λ (o : Option CellDecl). holds_at o p b u cell t) (sym f.found)
 
 -- what is left of the tokens decides the test of all
-pub record IsLeft (p : CoreProgram) (b : List ℕ) (u : Valuation) (items : Constraint) (i : ℕ) : Type 0 where
+pub record IsLeft (p : CoreProgram) (b : List ℕ) (u : StoreMap) (items : Constraint) (i : ℕ) : Type 0 where
   pub same : entails p b u (drop i items) ≡ entails p b u items
   pub fits : ConstraintFits p b (drop i items)
 
-module _ (p : CoreProgram) (b : List ℕ) (u : Valuation) (items : Constraint) (i : ℕ) (left : IsLeft p b u items i) where
+module _ (p : CoreProgram) (b : List ℕ) (u : StoreMap) (items : Constraint) (i : ℕ) (left : IsLeft p b u items i) where
   first_fits : (pair : ℕ × Token) → i < length items → TokenFits p b (get_or items i pair) × ConstraintFits p b (drop (i + 1) items)
   first_fits pair lt = subst (ConstraintFits p b) (drop_more items i pair lt) left.fits
 

@@ -4,7 +4,7 @@ use Rattle.std.specs.Prelude.{slice_get}
 use Rattle.std.specs.List.{list_all}
 use Rattle.std.specs.FinMap.{empty}
 use Rattle.std.proofs.lemmas.List.{drop_more, drop_all}
-use Rattle.token_system.specs.Stores.{Valuation}
+use Rattle.token_system.specs.Stores.{StoreMap}
 use Rattle.agent_core.specs.declared.node.Node.{Node}
 use Rattle.agent_core.specs.declared.node.Node.TheVariants as nodes
 use Rattle.agent_core.specs.Programs.{CoreProgram}
@@ -16,21 +16,21 @@ use Rattle.agent_core.specs.RestsAfter.{suffixes, rests_after, obs}
 use Rattle.agent_core.proofs.RestTests.{facts}
 
 -- with no store closed, to rest is to rest now
-pub just_started : (p : CoreProgram) (n : ℕ) (b : List ℕ) (s : ℕ) (z : List Valuation) (u v : Valuation) → length z ≡ 0 → rests p n b s u v ≡ obs p n b s z u v
+pub just_started : (p : CoreProgram) (n : ℕ) (b : List ℕ) (s : ℕ) (z : List StoreMap) (u v : StoreMap) → length z ≡ 0 → rests p n b s u v ≡ obs p n b s z u v
 just_started p n b s [] u v e = refl
 just_started p n b s (w ∷ z) u v e = absurd (omega arith)
 
 -- after the closed stores w ∷ z
-module _ (p : CoreProgram) (is : IsWellFormed p) (n : ℕ) (b : List ℕ) (closure : IsClosure p n b) (s : ℕ) (closed : List Valuation) (w : Valuation) (z : List Valuation) (split : closed ≡ w ∷ z) (u v : Valuation) where
+module _ (p : CoreProgram) (is : IsWellFormed p) (n : ℕ) (b : List ℕ) (closure : IsClosure p n b) (s : ℕ) (closed : List StoreMap) (w : StoreMap) (z : List StoreMap) (split : closed ≡ w ∷ z) (u v : StoreMap) where
   -- a node rests as the agent that it stands for
   obs-node : (node : Node) → slice_get p.nodes n ≡ Some node → rests_after p u v (w ∷ z) (agent_of (agent_at p.nodes) node) b s ≡ obs p n b s closed u v
   obs-node node found =
       ap (λ (a : Agent). rests_after p u v (w ∷ z) a b s) (sym (facts p is n b closure node found).tree)
-      ∙ ap (λ (y : List Valuation). rests_after p u v y (agent_at p.nodes n) b s) (sym split)
+      ∙ ap (λ (y : List StoreMap). rests_after p u v y (agent_at p.nodes n) b s) (sym split)
 
   -- what a part says after the same stores
   part : (m : ℕ) (births : List ℕ) → obs p m births s closed u v ≡ rests_after p u v (w ∷ z) (agent_at p.nodes m) births s
-  part m births = ap (λ (y : List Valuation). obs p m births s y u v) split
+  part m births = ap (λ (y : List StoreMap). obs p m births s y u v) split
 
   pub always-obs : (d : Node) → slice_get p.nodes n ≡ Some d → (d ≡ nodes.Skip) ⊎ ((c : Constraint) × (d ≡ nodes.Tell c)) → true ≡ obs p n b s closed u v
   always-obs d found (inl e) = obs-node nodes.Skip (found ∙ ap Some e)
@@ -66,14 +66,14 @@ module _ (p : CoreProgram) (is : IsWellFormed p) (n : ℕ) (b : List ℕ) (closu
 -- A LOOP OVER SUFFIXES
 
 -- what is asked of each suffix, one by one
-suffixes-more : (test : List Valuation → Bool) (z : List Valuation) (k : ℕ) → k < length z → (test (drop k z) && list_all test (suffixes (drop (k + 1) z))) ≡ list_all test (suffixes (drop k z))
+suffixes-more : (test : List StoreMap → Bool) (z : List StoreMap) (k : ℕ) → k < length z → (test (drop k z) && list_all test (suffixes (drop (k + 1) z))) ≡ list_all test (suffixes (drop k z))
 suffixes-more test z k lt =
     let more = drop_more z k empty lt in
-    ap (λ (y : List Valuation). test y && list_all test (suffixes (drop (k + 1) z))) more ∙ ap (λ (y : List Valuation). list_all test (suffixes y)) (sym more)
+    ap (λ (y : List StoreMap). test y && list_all test (suffixes (drop (k + 1) z))) more ∙ ap (λ (y : List StoreMap). list_all test (suffixes y)) (sym more)
 
 -- the node is started at instant s and at each later one, and z are the closed stores since s
-module _ (p : CoreProgram) (n : ℕ) (b : List ℕ) (s : ℕ) (z : List Valuation) (u v : Valuation) where
-  abbrev pub started_since : List Valuation → Bool
+module _ (p : CoreProgram) (n : ℕ) (b : List ℕ) (s : ℕ) (z : List StoreMap) (u v : StoreMap) where
+  abbrev pub started_since : List StoreMap → Bool
   started_since y = obs p n b (s + length z - length y) y u v
 
   -- the suffixes from the k-th on decide of all
@@ -94,7 +94,7 @@ module _ (p : CoreProgram) (n : ℕ) (b : List ℕ) (s : ℕ) (z : List Valuatio
   last-decides k left le =
       let none = drop_all k z le in
       let e : s + length z ≡ s + length z - 0 = omega arith in
-      ap (λ (t : ℕ). obs p n b t [] u v) e ∙ itself (started_since []) ∙ ap (λ (y : List Valuation). list_all started_since (suffixes y)) (sym none) ∙ left
+      ap (λ (t : ℕ). obs p n b t [] u v) e ∙ itself (started_since []) ∙ ap (λ (y : List StoreMap). list_all started_since (suffixes y)) (sym none) ∙ left
     where
       itself : (x : Bool) → x ≡ (x && true)
       itself true = refl

@@ -11,7 +11,7 @@ use Rattle.token_system.specs.declared.name.CellName.TheVariants.{Declared, Loca
 use Rattle.token_system.specs.Domain.{is_cell}
 use Rattle.token_system.specs.Values.{IsProper, bottom_of, bottom_for, WithinDomain}
 use Rattle.token_system.specs.Names.{name_total, name_cmp-IsAntisymmetric}
-use Rattle.token_system.specs.Stores.{Valuation, value_at}
+use Rattle.token_system.specs.Stores.{StoreMap, value_at}
 use Rattle.token_system.proofs.Alike.{same_tokens}
 use Rattle.agent_core.specs.declared.node.CellDecl.{CellDecl}
 use Rattle.agent_core.specs.Programs.{CoreProgram}
@@ -29,7 +29,7 @@ bottom_fits kinds.Signal lo hi c = (tt, refl)
 bottom_fits kinds.Number lo hi c = ((grind (arith, ints), grind (arith, ints)), grind (arith, ints))
 
 -- the value of a name is one of its cell
-pub value_at-fits : (p : CoreProgram) (s : Valuation) (n : CellName) (d : CellDecl) → IsStore p s → Names p n d
+pub value_at-fits : (p : CoreProgram) (s : StoreMap) (n : CellName) (d : CellDecl) → IsStore p s → Names p n d
     → WithinDomain d.cell.lo d.cell.hi d.cell.kind (value_at s n d.cell) × IsProper (value_at s n d.cell)
 value_at-fits p s n d is named = go (get s n) refl
   where
@@ -41,13 +41,13 @@ value_at-fits p s n d is named = go (get s n) refl
         subst (λ (c : CellDecl). WithinDomain c.cell.lo c.cell.hi c.cell.kind v × IsProper v) same (h.2.value.domain, h.2.value.proper)
 
 -- the stores have one value at a name
-value_at-one : (p : CoreProgram) (u v : Valuation) (n : CellName) (d : CellDecl) → IsStore p u → IsStore p v → Below p u v → Below p v u → Names p n d → value_at u n d.cell ≡ value_at v n d.cell
+value_at-one : (p : CoreProgram) (u v : StoreMap) (n : CellName) (d : CellDecl) → IsStore p u → IsStore p v → Below p u v → Below p v u → Names p n d → value_at u n d.cell ≡ value_at v n d.cell
 value_at-one p u v n d iu iv uv vu named =
     let a = value_at-fits p u n d iu named in
     let b = value_at-fits p v n d iv named in
     same_tokens d.cell.kind d.cell.lo d.cell.hi (value_at u n d.cell) (value_at v n d.cell) d.cell.lawful a.0 a.1 b.0 b.1 (λ t f h. uv n d t named f h) (λ t f h. vu n d t named f h)
 
-get-one : (p : CoreProgram) (u v : Valuation) (n : CellName) → IsStore p u → IsStore p v → Below p u v → Below p v u → (a b : Option Value) → get u n ≡ a → get v n ≡ b → a ≡ b
+get-one : (p : CoreProgram) (u v : StoreMap) (n : CellName) → IsStore p u → IsStore p v → Below p u v → Below p v u → (a b : Option Value) → get u n ≡ a → get v n ≡ b → a ≡ b
 get-one p u v n iu iv uv vu None None ea eb = refl
 get-one p u v n iu iv uv vu (Some x) None ea eb =
     let h = iu n x ea in
@@ -62,5 +62,5 @@ get-one p u v n iu iv uv vu (Some x) (Some y) ea eb =
     let e = value_at-one p u v n h.0 iu iv uv vu h.1 in
     ap Some (ap (λ o. unwrap_or o (bottom_of h.0.cell)) (sym ea) ∙ e ∙ ap (λ o. unwrap_or o (bottom_of h.0.cell)) eb)
 
-pub Below-antisym : (p : CoreProgram) (u v : Valuation) → IsStore p u → IsStore p v → Below p u v → Below p v u → u ≡ v
+pub Below-antisym : (p : CoreProgram) (u v : StoreMap) → IsStore p u → IsStore p v → Below p u v → Below p v u → u ≡ v
 Below-antisym p u v iu iv uv vu = same_map name_total name_cmp-IsAntisymmetric u v (λ n. get-one p u v n iu iv uv vu (get u n) (get v n) refl refl)

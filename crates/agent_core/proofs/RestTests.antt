@@ -2,7 +2,7 @@
 use Rattle.std.proofs.Common.{◌≡◌, ℕ, ◌<◌, Bool, true, false, ◌&&◌, not, List, [], ◌∷◌, ◌++◌, Some, length, get_or, refl, sym, ap, ◌∙◌, subst, arith, length-append, ◌⊎◌, inl, inr}
 use Rattle.std.specs.Prelude.{Result, IfOk, slice_get}
 use Rattle.std.proofs.lemmas.Option.{slice_get_read}
-use Rattle.token_system.specs.Stores.{Valuation}
+use Rattle.token_system.specs.Stores.{StoreMap}
 use Rattle.agent_core.specs.declared.node.Node.{Node}
 use Rattle.agent_core.specs.declared.node.Node.TheVariants as nodes
 use Rattle.agent_core.specs.Programs.{CoreProgram}
@@ -63,7 +63,7 @@ module _ (p : CoreProgram) (is : IsWellFormed p) (n : ℕ) (b : List ℕ) (closu
   pub next_body : (m : ℕ) → slice_get p.nodes n ≡ Some (nodes.Next m) → IsBodyOf b m
   next_body m found = body m (facts (nodes.Next m) found).parts
 
-  module _ (t : ℕ) (u v : Valuation) where
+  module _ (t : ℕ) (u v : StoreMap) where
     -- a node rests as the agent that it stands for
     rests-node : (node : Node) → slice_get p.nodes n ≡ Some node → rests p n b t u v ≡ agent_rests p t v (agent_of (agent_at p.nodes) node) b u
     rests-node node found = ap (λ (a : Agent). agent_rests p t v a b u) (facts node found).tree

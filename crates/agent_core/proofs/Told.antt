@@ -1,4 +1,4 @@
--- A store in which a token is told is the least that entails the token and all that the store entails.
+-- A store in which a token is after_tell is the least that entails the token and all that the store entails.
 use Rattle.std.proofs.Common.{◌≡◌, ◌⊎◌, inl, inr, Bool, true, false, cond, Some, refl, sym, ap, ◌∙◌, subst}
 use Rattle.std.specs.Prelude.{IsTrue, unwrap_or}
 use Rattle.std.specs.FinMap.{get, insert, get-insert}
@@ -11,7 +11,7 @@ use Rattle.token_system.specs.declared.name.CellName.{CellName}
 use Rattle.token_system.specs.Tokens.{Fits}
 use Rattle.token_system.specs.Values.{bottom_of, value_with, value_entails, value_eq}
 use Rattle.token_system.specs.Names.{name_cmp, name_total}
-use Rattle.token_system.specs.Stores.{Valuation, value_at, store_entails, told, IsKeptFor}
+use Rattle.token_system.specs.Stores.{StoreMap, value_at, store_entails, after_tell, IsKeptFor}
 use Rattle.token_system.proofs.Alike.{true_false}
 use Rattle.token_system.proofs.Adding.{Added, added, bottom_covered, value_eq-true, value_eq-itself}
 use Rattle.token_system.proofs.Telling.{equal_names}
@@ -22,15 +22,15 @@ use Rattle.agent_core.specs.Stores.{IsStore, Below}
 use Rattle.agent_core.proofs.OneStore.{Names-one, value_at-fits}
 
 -- at one name, w entails what u does
-abbrev pub BelowAt : CoreProgram → Valuation → Valuation → CellName → Type 0
+abbrev pub BelowAt : CoreProgram → StoreMap → StoreMap → CellName → Type 0
 BelowAt p u w q = (d : CellDecl) (t : Token) → Names p q d → Fits d.cell t → IsTrue (store_entails u q d.cell t) → IsTrue (store_entails w q d.cell t)
 
 -- s with one value more
-pub record Tells (p : CoreProgram) (s : Valuation) (n : CellName) (d : CellDecl) (t : Token) (after : Valuation) : Type 0 where
+pub record Tells (p : CoreProgram) (s : StoreMap) (n : CellName) (d : CellDecl) (t : Token) (after : StoreMap) : Type 0 where
   pub store : IsStore p after
   pub above : Below p s after
   pub entails : IsTrue (store_entails after n d.cell t)
-  pub least : (x : Valuation) → IsStore p x → Below p s x → IsTrue (store_entails x n d.cell t) → Below p after x
+  pub least : (x : StoreMap) → IsStore p x → Below p s x → IsTrue (store_entails x n d.cell t) → Below p after x
 
 -- what holds at a name and its cell holds at an equal name
 at_name : (p : CoreProgram) (q n : CellName) (e d : CellDecl) (P : CellName → CellDecl → Type 0) → q ≡ n → Names p q e → Names p n d → P n d → P q e
@@ -38,11 +38,11 @@ at_name p q n e d P same named_q named h =
     let one : e ≡ d = Names-one p n e d (subst (λ (m : CellName). Names p m e) same named_q) named in
     subst (λ (m : CellName). P m e) (sym same) (subst (P n) (sym one) h)
 
-value_self : (s : Valuation) (n : CellName) (c : Cell) (w : Value) → value_at (insert s n w) n c ≡ w
+value_self : (s : StoreMap) (n : CellName) (c : Cell) (w : Value) → value_at (insert s n w) n c ≡ w
 value_self s n c w = ap (λ o. unwrap_or o (bottom_of c)) (get-insert name_total s n w n ∙ ap (λ b. cond b (Some w) (get s n)) ((eq_by_cmp_equiv name_total).refl n))
 
-module _ (p : CoreProgram) (s : Valuation) (n : CellName) (d : CellDecl) (t : Token) (is : IsStore p s) (named : Names p n d) (fits : Fits d.cell t) where
-  -- what is told is told at its name, and nothing changes elsewhere
+module _ (p : CoreProgram) (s : StoreMap) (n : CellName) (d : CellDecl) (t : Token) (is : IsStore p s) (named : Names p n d) (fits : Fits d.cell t) where
+  -- what is after_tell is after_tell at its name, and nothing changes elsewhere
   told_at : (b : Bool) → value_eq (value_with (value_at s n d.cell) t) (bottom_of d.cell) ≡ b → (q : CellName) (e : CellDecl) → Names p q e
       → ((q ≡ n) × (value_at (cond b s (insert s n (value_with (value_at s n d.cell) t))) n d.cell ≡ value_with (value_at s n d.cell) t))
       ⊎ (value_at (cond b s (insert s n (value_with (value_at s n d.cell) t))) q e.cell ≡ value_at s q e.cell)
@@ -98,7 +98,7 @@ module _ (p : CoreProgram) (s : Valuation) (n : CellName) (d : CellDecl) (t : To
       bottom_covered d.cell.kind d.cell.lo d.cell.hi (value_at s n d.cell) fit.0 t fits (subst (λ (z : Value). IsTrue (value_entails z t)) low added_here.entails)
   entails_it false eb = subst (λ (z : Value). IsTrue (value_entails z t)) (sym (value_self s n d.cell (value_with (value_at s n d.cell) t))) added_here.entails
 
-  is_least : (b : Bool) → value_eq (value_with (value_at s n d.cell) t) (bottom_of d.cell) ≡ b → (x : Valuation) → IsStore p x → Below p s x → IsTrue (store_entails x n d.cell t)
+  is_least : (b : Bool) → value_eq (value_with (value_at s n d.cell) t) (bottom_of d.cell) ≡ b → (x : StoreMap) → IsStore p x → Below p s x → IsTrue (store_entails x n d.cell t)
       → Below p (cond b s (insert s n (value_with (value_at s n d.cell) t))) x
   is_least b eb x ix below ex q e t' named_q f h = go (told_at b eb q e named_q)
     where
@@ -111,17 +111,17 @@ module _ (p : CoreProgram) (s : Valuation) (n : CellName) (d : CellDecl) (t : To
           added_here.least_such (value_at x n d.cell) fx.0 fx.1 (λ t f h. below n d t named f h) ex t' f (subst (λ (z : Value). IsTrue (value_entails z t')) w.1 h)) f h
       go (inr w) = below q e t' named_q f (subst (λ (z : Value). IsTrue (value_entails z t')) w h)
 
-  pub told-Tells : Tells p s n d t (told s n d.cell t)
+  pub told-Tells : Tells p s n d t (after_tell s n d.cell t)
   told-Tells =
       let b : Bool = value_eq (value_with (value_at s n d.cell) t) (bottom_of d.cell) in
       record { store = is_store b refl; above = is_above b refl; entails = entails_it b refl; least = is_least b refl }
 
   -- nothing changes but at the name, and there no more than needed
-  pub told-at : (x : Valuation) → IsStore p x → (q : CellName) → BelowAt p s x q → (q ≡ n → IsTrue (store_entails x n d.cell t)) → BelowAt p (told s n d.cell t) x q
+  pub told-at : (x : StoreMap) → IsStore p x → (q : CellName) → BelowAt p s x q → (q ≡ n → IsTrue (store_entails x n d.cell t)) → BelowAt p (after_tell s n d.cell t) x q
   told-at x ix q below ex e t' named_q f h = go (told_at (value_eq (value_with (value_at s n d.cell) t) (bottom_of d.cell)) refl q e named_q)
     where
-      go : ((q ≡ n) × (value_at (told s n d.cell t) n d.cell ≡ value_with (value_at s n d.cell) t)) ⊎ (value_at (told s n d.cell t) q e.cell ≡ value_at s q e.cell) → IsTrue (store_entails x q e.cell t')
-      go (inl w) = at_name p q n e d (λ m c. Fits c.cell t' → IsTrue (store_entails (told s n d.cell t) m c.cell t') → IsTrue (store_entails x m c.cell t')) w.0 named_q named
+      go : ((q ≡ n) × (value_at (after_tell s n d.cell t) n d.cell ≡ value_with (value_at s n d.cell) t)) ⊎ (value_at (after_tell s n d.cell t) q e.cell ≡ value_at s q e.cell) → IsTrue (store_entails x q e.cell t')
+      go (inl w) = at_name p q n e d (λ m c. Fits c.cell t' → IsTrue (store_entails (after_tell s n d.cell t) m c.cell t') → IsTrue (store_entails x m c.cell t')) w.0 named_q named
           (λ f h.
           let fx = value_at-fits p x n d ix named in
           let here : BelowAt p s x n = subst (BelowAt p s x) w.0 below in

@@ -5,7 +5,7 @@ use Rattle.std.specs.Ordering.{nat_cmp, on}
 use Rattle.std.specs.declared.cmp.Ordering.{Ordering}
 use Rattle.std.specs.declared.cmp.Ordering.TheVariants.{Less, Equal, Greater}
 use Rattle.std.specs.Cmp.Lexicographic.{slice_cmp}
-use Rattle.token_system.specs.Stores.{Valuation}
+use Rattle.token_system.specs.Stores.{StoreMap}
 use Rattle.agent_core.specs.declared.node.Closure.{Closure}
 use Rattle.agent_core.specs.Agents.{Agent, Skip, Tell, Then, Else, Par, New, Hence, Next, agent_at}
 use Rattle.agent_core.specs.Programs.{CoreProgram}
@@ -42,7 +42,7 @@ sorted (c ∷ cs) = put c (sorted cs)
 -- STARTS
 
 -- the closures that are started now by the agent of node n, which was started at s under births b, where z are the closed stores since s
-abbrev pub started : CoreProgram → List Valuation → Agent → ℕ → List ℕ → ℕ → List Closure
+abbrev pub started : CoreProgram → List StoreMap → Agent → ℕ → List ℕ → ℕ → List Closure
 started p [] a n b s = closure n b ∷ []
 started p (w ∷ z) Skip n b s = []
 started p (w ∷ z) (Tell c) n b s = []
@@ -54,5 +54,5 @@ started p (w ∷ z) (Next a) n b s = started p z a (suc n) b (s + 1)
 started p (w ∷ z) (Hence a) n b s = flat_map (λ y. started p y a (suc n) b (s + 1 + length z - length y)) (suffixes z)
 
 -- the roots of the instant after these closed stores: the closures that hence and next start there, and at instant 0 the root
-abbrev pub roots : CoreProgram → List Valuation → List Closure
+abbrev pub roots : CoreProgram → List StoreMap → List Closure
 roots p z = sorted (started p z (agent_at p.nodes 0) 0 [] 0)

@@ -1,7 +1,7 @@
 -- The leaves of an instant: what is reached from its roots without passing a hence or a next, each with the asks on its path. This project's own.
 use Rattle.std.specs.Prelude.{ℕ, suc, ◌+◌, Bool, not, List, [], ◌∷◌, ◌++◌, length, filter, flat_map}
 use Rattle.std.specs.List.{list_all}
-use Rattle.token_system.specs.Stores.{Valuation}
+use Rattle.token_system.specs.Stores.{StoreMap}
 use Rattle.agent_core.specs.declared.node.Closure.{Closure}
 use Rattle.agent_core.specs.Agents.{Agent, Constraint, Skip, Tell, Then, Else, Par, New, Hence, Next, agent_at}
 use Rattle.agent_core.specs.Programs.{CoreProgram}
@@ -43,14 +43,14 @@ abbrev pub tells : Agent → Constraint
 tells (Tell c) = c
 tells _ = []
 
-abbrev pub allows : CoreProgram → Valuation → Guard → Bool
+abbrev pub allows : CoreProgram → StoreMap → Guard → Bool
 allows p v (Positive b c) = entails p b v c
 allows p v (Negative b c) = not (entails p b v c)
 
 -- the store runs the leaf: it entails every then ask on the leaf's path, and no else ask
-abbrev pub runs : CoreProgram → Valuation → Leaf → Bool
+abbrev pub runs : CoreProgram → StoreMap → Leaf → Bool
 runs p v l = list_all (allows p v) l.path
 
 -- how many leaves of these roots the store runs at instant t
-abbrev pub ran : CoreProgram → List Closure → ℕ → Valuation → ℕ
+abbrev pub ran : CoreProgram → List Closure → ℕ → StoreMap → ℕ
 ran p rs t v = length (filter (runs p v) (leaves p rs t))

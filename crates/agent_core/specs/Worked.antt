@@ -5,7 +5,7 @@ use Rattle.token_system.specs.declared.cell.Kind.TheVariants as kinds
 use Rattle.token_system.specs.declared.cell.Token.TheVariants.{On}
 use Rattle.token_system.specs.declared.cell.Value.TheVariants as values
 use Rattle.token_system.specs.declared.name.CellName.TheVariants.{Declared}
-use Rattle.token_system.specs.Stores.{Valuation}
+use Rattle.token_system.specs.Stores.{StoreMap}
 use Rattle.agent_core.specs.declared.node.CellDecl.{CellDecl}
 use Rattle.agent_core.specs.Agents.{Agent, Constraint, Tell, Else, Par, Hence, Next}
 use Rattle.agent_core.specs.Programs.{CoreProgram}
@@ -26,10 +26,10 @@ abbrev pub over_a : Agent → CoreProgram
 over_a agent = record { cells = a_decl ∷ []; declared = 1; nodes = listing 0 agent }
 
 -- the store of which nothing is told, and the one in which `a` is on
-abbrev pub nothing : Valuation
+abbrev pub nothing : StoreMap
 nothing = empty
 
-abbrev pub only_a : Valuation
+abbrev pub only_a : StoreMap
 only_a = insert empty (Declared 0) (values.Signal true false)
 
 -- `if a else a`: a default that takes its own ground away

@@ -2,7 +2,7 @@
 use Rattle.std.proofs.Common.{◌≡◌, ℕ, zero, suc, ◌+◌, ◌<◌, Bool, true, false, not, List, [], ◌∷◌, ◌++◌, refl, sym, ◌∙◌, arith}
 use Rattle.std.specs.Prelude.{IsTrue, slice_index}
 use Rattle.std.specs.List.{list_all}
-use Rattle.token_system.specs.Stores.{Valuation}
+use Rattle.token_system.specs.Stores.{StoreMap}
 use Rattle.token_system.proofs.Alike.{true_false}
 use Rattle.agent_core.specs.declared.node.Closure.{Closure}
 use Rattle.agent_core.specs.Agents.{Agent, Skip, Tell, Then, Else, Par, New, Hence, Next, agent_at}
@@ -70,7 +70,7 @@ path_test true a b x y h = go a b x y (h refl)
 -- CLOSURES AND THEIR LEAVES
 
 -- where u is below v, closures rest exactly where their leaves do
-pub closures_leaves : (p : CoreProgram) → IsWellFormed p → (rs : List Closure) → Each (IsOwn p) rs → (t : ℕ) (u v : Valuation) → Below p u v
+pub closures_leaves : (p : CoreProgram) → IsWellFormed p → (rs : List Closure) → Each (IsOwn p) rs → (t : ℕ) (u v : StoreMap) → Below p u v
     → roots_rest p rs t u v ≡ list_all (leaf_rests p u v) (leaves p rs t)
 closures_leaves p is rs own t u v below = sym (roots_leaves p t u v below rs (Each-map (IsOwn p) (ClosureFits p t u v below) (λ r h. closure_fits p is r.node r.births h t) rs own))
 
@@ -91,21 +91,21 @@ module _ (p : CoreProgram) (table : List ℕ) (s : ℕ) (low : AreBelow p table 
           (leaves_stratified table t (agent_at p.nodes r.node) r.node r.births [] 0 (node_floors p table is strat r.node h.0.node) tt))
           (go rs h.1)
 
-  to_leaves : (u v : Valuation) → Below p u v → IsTrue (roots_rest p rs t u v) → Each (flat.LeafRests sys v u) (leaves p rs t)
+  to_leaves : (u v : StoreMap) → Below p u v → IsTrue (roots_rest p rs t u v) → Each (flat.LeafRests sys v u) (leaves p rs t)
   to_leaves u v below h = each_true (leaf_rests p u v) (flat.LeafRests sys v u) (λ l r. path_facts _ _ _ _ _ r) (leaves p rs t) (sym (closures_leaves p is rs own t u v below) ∙ h)
 
-  from_leaves : (u v : Valuation) → Below p u v → Each (flat.LeafRests sys v u) (leaves p rs t) → IsTrue (roots_rest p rs t u v)
+  from_leaves : (u v : StoreMap) → Below p u v → Each (flat.LeafRests sys v u) (leaves p rs t) → IsTrue (roots_rest p rs t u v)
   from_leaves u v below h = closures_leaves p is rs own t u v below ∙ true_each (leaf_rests p u v) (flat.LeafRests sys v u) (λ l r. path_test _ _ _ _ _ r) (leaves p rs t) h
 
   -- a store is below another where it is so stratum by stratum
-  abbrev pub by_strata : (u w : Valuation) → Below p u w → (k : ℕ) → sys.Upto k u w
+  abbrev pub by_strata : (u w : StoreMap) → Below p u w → (k : ℕ) → sys.Upto k u w
   by_strata = of_below p table s low is
 
-  abbrev pub in_all : (u w : Valuation) → ((k : ℕ) → sys.Upto k u w) → Below p u w
+  abbrev pub in_all : (u w : StoreMap) → ((k : ℕ) → sys.Upto k u w) → Below p u w
   in_all = below_of p table s low is
 
   -- the outputs of the closures are those of the leaves
-  pub flat-output : (i v : Valuation) → IsOutputOf p rs t i v → flat.IsOutput sys (leaves p rs t) i v
+  pub flat-output : (i v : StoreMap) → IsOutputOf p rs t i v → flat.IsOutput sys (leaves p rs t) i v
   flat-output i v out = record {
     store = out.store;
     above = by_strata i v out.above;
@@ -113,7 +113,7 @@ module _ (p : CoreProgram) (table : List ℕ) (s : ℕ) (low : AreBelow p table 
     least = λ u iu low high h. out.least u iu (in_all i u low) (in_all u v high) (from_leaves u v (in_all u v high) h);
   }
 
-  pub output-flat : (i v : Valuation) → IsStore p i → flat.IsOutput sys (leaves p rs t) i v → IsOutputOf p rs t i v
+  pub output-flat : (i v : StoreMap) → IsStore p i → flat.IsOutput sys (leaves p rs t) i v → IsOutputOf p rs t i v
   output-flat i v ii out = record {
     given = ii;
     store = out.store;
@@ -122,10 +122,10 @@ module _ (p : CoreProgram) (table : List ℕ) (s : ℕ) (low : AreBelow p table 
     least = λ u iu low high h. out.least u iu (by_strata i u low) (by_strata u v high) (to_leaves u v high h);
   }
 
-  pub has_leaf_output : (i : Valuation) → IsStore p i → (v : Valuation) × IsOutputOf p rs t i v
+  pub has_leaf_output : (i : StoreMap) → IsStore p i → (v : StoreMap) × IsOutputOf p rs t i v
   has_leaf_output i ii = (flat.output sys (leaves p rs t) i leaves-fit ii, output-flat i _ ii (flat.has_output sys (leaves p rs t) i leaves-fit ii))
 
-  pub one_leaf_output : (i v w : Valuation) → IsOutputOf p rs t i v → IsOutputOf p rs t i w → v ≡ w
+  pub one_leaf_output : (i v w : StoreMap) → IsOutputOf p rs t i v → IsOutputOf p rs t i w → v ≡ w
   one_leaf_output i v w ov ow = flat.one_output sys (leaves p rs t) i leaves-fit ov.given v w (flat-output i v ov) (flat-output i w ow)
 
 -- a number above each of the table's
@@ -141,8 +141,8 @@ table-low (x ∷ table) (suc c) = let h = table-low table c in omega arith
 pub all_below : (p : CoreProgram) (table : List ℕ) → AreBelow p table (above_all table)
 all_below p table c within = table-low table c
 
-pub closures-have_output : (p : CoreProgram) (table : List ℕ) → IsWellFormed p → Stratifies p table → (rs : List Closure) → Each (IsOwn p) rs → (t : ℕ) (i : Valuation) → IsStore p i → (v : Valuation) × IsOutputOf p rs t i v
+pub closures-have_output : (p : CoreProgram) (table : List ℕ) → IsWellFormed p → Stratifies p table → (rs : List Closure) → Each (IsOwn p) rs → (t : ℕ) (i : StoreMap) → IsStore p i → (v : StoreMap) × IsOutputOf p rs t i v
 closures-have_output p table is strat rs own t i ii = has_leaf_output p table (above_all table) (all_below p table) is strat rs own t i ii
 
-pub closures-one_output : (p : CoreProgram) (table : List ℕ) → IsWellFormed p → Stratifies p table → (rs : List Closure) → Each (IsOwn p) rs → (t : ℕ) (i v w : Valuation) → IsOutputOf p rs t i v → IsOutputOf p rs t i w → v ≡ w
+pub closures-one_output : (p : CoreProgram) (table : List ℕ) → IsWellFormed p → Stratifies p table → (rs : List Closure) → Each (IsOwn p) rs → (t : ℕ) (i v w : StoreMap) → IsOutputOf p rs t i v → IsOutputOf p rs t i w → v ≡ w
 closures-one_output p table is strat rs own t i v w ov ow = one_leaf_output p table (above_all table) (all_below p table) is strat rs own t i v w ov ow

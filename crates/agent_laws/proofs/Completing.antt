@@ -4,7 +4,7 @@ use Rattle.std.specs.Prelude.{Option, IsTrue, slice_get}
 use Rattle.std.specs.List.{list_all}
 use Rattle.std.proofs.Math.Bool.{and_assoc, not-not}
 use Rattle.token_system.specs.declared.cell.Token.{Token}
-use Rattle.token_system.specs.Stores.{Valuation}
+use Rattle.token_system.specs.Stores.{StoreMap}
 use Rattle.token_system.proofs.Alike.{true_false}
 use Rattle.agent_core.specs.declared.node.Closure.{Closure}
 use Rattle.agent_core.specs.declared.node.CellDecl.{CellDecl}
@@ -31,7 +31,7 @@ use Rattle.agent_laws.proofs.ClosureOutputs.{leaves-fit, flat-output, by_strata,
 
 -- TO RUN A LEAF IS TO FREE ITS PATH AND TO ANSWER ITS ASKS
 
-pub runs-parts : (p : CoreProgram) (v : Valuation) (path : List Guard) → list_all (allows p v) path ≡ (list_all (free p v) path && list_all (asked p v) path)
+pub runs-parts : (p : CoreProgram) (v : StoreMap) (path : List Guard) → list_all (allows p v) path ≡ (list_all (free p v) path && list_all (asked p v) path)
 runs-parts p v [] = refl
 runs-parts p v (Positive b c ∷ path) = ap (λ x. entails p b v c && x) (runs-parts p v path) ∙ and_swap (entails p b v c) (list_all (free p v) path) (list_all (asked p v) path)
 runs-parts p v (Negative b c ∷ path) = ap (λ x. not (entails p b v c) && x) (runs-parts p v path) ∙ sym (and_assoc (not (entails p b v c)) (list_all (free p v) path) (list_all (asked p v) path))
@@ -45,7 +45,7 @@ whole true a e h = h
 whole false a e h = absurd (true_false e)
 
 module _ (p : CoreProgram) (table : List ℕ) (s : ℕ) (low : AreBelow p table s) (is : IsWellFormed p) (strat : Stratifies p table) (rs : List Closure) (own : Each (IsOwn p) rs) (t : ℕ)
-    (i v : Valuation) (out : IsOutputOf p rs t i v) where
+    (i v : StoreMap) (out : IsOutputOf p rs t i v) where
   abbrev sys : System
   sys = system p table s low is
 
@@ -55,10 +55,10 @@ module _ (p : CoreProgram) (table : List ℕ) (s : ℕ) (low : AreBelow p table 
   of_leaves : flat.IsOutput sys (leaves p rs t) i v
   of_leaves = flat-output p table s low is strat rs own t i v out
 
-  abbrev Way : ℕ → Valuation → Type 0
+  abbrev Way : ℕ → StoreMap → Type 0
   Way = settling.IsWay sys (leaves p rs t) i fit out.given v of_leaves
 
-  to_way : (k : ℕ) (w : Valuation) → IsOnWay p table i v k w → Way k w
+  to_way : (k : ℕ) (w : StoreMap) → IsOnWay p table i v k w → Way k w
   to_way k w h = record {
     store = h.store;
     above = by_strata p table s low is strat rs own t i w h.above;
@@ -66,7 +66,7 @@ module _ (p : CoreProgram) (table : List ℕ) (s : ℕ) (low : AreBelow p table 
     stands = h.stands;
   }
 
-  of_way : (k : ℕ) (w : Valuation) → Way k w → IsOnWay p table i v k w
+  of_way : (k : ℕ) (w : StoreMap) → Way k w → IsOnWay p table i v k w
   of_way k w h = record {
     store = h.store;
     above = in_all p table s low is strat rs own t i w h.above;
@@ -79,7 +79,7 @@ module _ (p : CoreProgram) (table : List ℕ) (s : ℕ) (low : AreBelow p table 
   start-on_way = record { store = out.given; above = Below-refl p i; below = out.above; stands = λ n lt. absurd (omega arith) }
 
   -- a leaf of level at most k that the store runs may tell
-  pub tell-on_way : (k : ℕ) (w : Valuation) (n : ℕ) (l : Leaf) → IsOnWay p table i v k w → slice_get (leaves p rs t) n ≡ Some l → leaf_level table s l ≤ k → IsTrue (runs p w l)
+  pub tell-on_way : (k : ℕ) (w : StoreMap) (n : ℕ) (l : Leaf) → IsOnWay p table i v k w → slice_get (leaves p rs t) n ≡ Some l → leaf_level table s l ≤ k → IsTrue (runs p w l)
       → IsOnWay p table i v k (tell_all p l.births (tells l.agent) w)
   tell-on_way k w n l h at le run =
       let r = parts (list_all (free p w) l.path) (list_all (asked p w) l.path) (sym (runs-parts p w l.path) ∙ run) in
@@ -93,7 +93,7 @@ module _ (p : CoreProgram) (table : List ℕ) (s : ℕ) (low : AreBelow p table 
       (each_at (flat.LeafRests sys v v) (leaves p rs t) n l of_leaves.rests at r.0).0 r.1
 
   -- each single token may be told of a leaf that the output runs
-  pub token-on_way : (k : ℕ) (w : Valuation) (n j : ℕ) (l : Leaf) (pair : ℕ × Token) → IsOnWay p table i v k w → slice_get (leaves p rs t) n ≡ Some l → IsTrue (runs p v l)
+  pub token-on_way : (k : ℕ) (w : StoreMap) (n j : ℕ) (l : Leaf) (pair : ℕ × Token) → IsOnWay p table i v k w → slice_get (leaves p rs t) n ≡ Some l → IsTrue (runs p v l)
       → slice_get (tells l.agent) j ≡ Some pair → IsOnWay p table i v k (tell_at (slice_get p.cells pair.0) p l.births w pair.0 pair.1)
   token-on_way k w n j l pair h at run e =
       let f : TokenFits p l.births pair = each_at (TokenFits p l.births) (tells l.agent) j pair (each_at (LeafFits p table) (leaves p rs t) n l fit at).told e in
@@ -108,7 +108,7 @@ module _ (p : CoreProgram) (table : List ℕ) (s : ℕ) (low : AreBelow p table 
       }
 
   -- a leaf of level at most k that the store runs is run by the output
-  pub runs-on_way : (k : ℕ) (w : Valuation) (n : ℕ) (l : Leaf) → IsOnWay p table i v k w → slice_get (leaves p rs t) n ≡ Some l → leaf_level table s l ≤ k → IsTrue (runs p w l) → IsTrue (runs p v l)
+  pub runs-on_way : (k : ℕ) (w : StoreMap) (n : ℕ) (l : Leaf) → IsOnWay p table i v k w → slice_get (leaves p rs t) n ≡ Some l → leaf_level table s l ≤ k → IsTrue (runs p w l) → IsTrue (runs p v l)
   runs-on_way k w n l h at le run =
       let r = parts (list_all (free p w) l.path) (list_all (asked p w) l.path) (sym (runs-parts p w l.path) ∙ run) in
       let there = settling.runs_there sys (leaves p rs t) i fit out.given v of_leaves k w l (to_way k w h)
@@ -116,24 +116,24 @@ module _ (p : CoreProgram) (table : List ℕ) (s : ℕ) (low : AreBelow p table 
       runs-parts p v l.path ∙ whole (list_all (free p v) l.path) (list_all (asked p v) l.path) there.0 there.1
 
   -- the leaf has told where the store runs it
-  abbrev pub HasTold : Valuation → Leaf → Type 0
+  abbrev pub HasTold : StoreMap → Leaf → Type 0
   HasTold w l = IsTrue (runs p w l) → IsTrue (entails p l.births w (tells l.agent))
 
   -- where each leaf of level at most k has told, stratum k stands too
-  pub stratum-on_way : (k : ℕ) (w : Valuation) → IsOnWay p table i v k w → Each (λ l. leaf_level table s l ≤ k → HasTold w l) (leaves p rs t) → IsOnWay p table i v (suc k) w
+  pub stratum-on_way : (k : ℕ) (w : StoreMap) → IsOnWay p table i v k w → Each (λ l. leaf_level table s l ≤ k → HasTold w l) (leaves p rs t) → IsOnWay p table i v (suc k) w
   stratum-on_way k w h told =
       of_way (suc k) w (settling.stratum-way sys (leaves p rs t) i fit out.given v of_leaves k w (to_way k w h)
       (Each-map (λ l. leaf_level table s l ≤ k → HasTold w l) (flat.CalmUpto sys (suc k) w w)
       (λ l has lt off on. has (omega arith) (runs-parts p w l.path ∙ whole (list_all (free p w) l.path) (list_all (asked p w) l.path) off on)) (leaves p rs t) told))
 
   -- where all strata stand it is the output
-  pub end-on_way : (w : Valuation) → IsOnWay p table i v s w → w ≡ v
+  pub end-on_way : (w : StoreMap) → IsOnWay p table i v s w → w ≡ v
   end-on_way w h = settling.end-way sys (leaves p rs t) i fit out.given v of_leaves w (to_way s w h)
 
   run_same : (l : Leaf) → settling.runs sys (leaves p rs t) i fit out.given v of_leaves l ≡ runs p v l
   run_same l = ap (λ x. x && list_all (asked p v) l.path) (not-not (list_all (free p v) l.path)) ∙ sym (runs-parts p v l.path)
 
-  tell_same : (ls : List Leaf) (u : Valuation) → settling.tell_run sys (leaves p rs t) i fit out.given v of_leaves ls u ≡ tell_ran p v ls u
+  tell_same : (ls : List Leaf) (u : StoreMap) → settling.tell_run sys (leaves p rs t) i fit out.given v of_leaves ls u ≡ tell_ran p v ls u
   tell_same [] u = refl
   tell_same (l ∷ ls) u =
       ap (λ b. settling.tell_run sys (leaves p rs t) i fit out.given v of_leaves ls (cond b (tell_all p l.births (tells l.agent) u) u)) (run_same l)

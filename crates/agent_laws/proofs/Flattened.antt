@@ -4,7 +4,7 @@ use Rattle.std.specs.Prelude.{IsTrue}
 use Rattle.std.specs.List.{list_all}
 use Rattle.std.proofs.lemmas.List.Folds.{list_all-append}
 use Rattle.std.proofs.Math.Bool.{and-true, and_self}
-use Rattle.token_system.specs.Stores.{Valuation}
+use Rattle.token_system.specs.Stores.{StoreMap}
 use Rattle.token_system.proofs.Alike.{true_false}
 use Rattle.agent_core.specs.Agents.{Agent, Skip, Tell, Then, Else, Par, New, Hence, Next, agent_at}
 use Rattle.agent_core.specs.Programs.{CoreProgram}
@@ -64,7 +64,7 @@ or_up : (e x y : Bool) → (IsTrue x → IsTrue y) → IsTrue (e || x) → IsTru
 or_up true x y up h = refl
 or_up false x y up h = up h
 
-module _ (p : CoreProgram) (t : ℕ) (u v : Valuation) (below : Below p u v) where
+module _ (p : CoreProgram) (t : ℕ) (u v : StoreMap) (below : Below p u v) where
   -- who rests under u and the guess rests under the guess
   pub rests-up : (a : Agent) (b : List ℕ) → AgentFits p t a b → IsTrue (agent_rests p t v a b u) → IsTrue (agent_rests p t v a b v)
   rests-up Skip b f h = refl

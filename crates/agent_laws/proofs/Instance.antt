@@ -7,7 +7,7 @@ use Rattle.std.proofs.Math.Nat.{min-le_left, min-le_right, le-min}
 use Rattle.token_system.specs.declared.name.CellName.{CellName}
 use Rattle.token_system.specs.declared.name.CellName.TheVariants.{Declared, Local}
 use Rattle.token_system.specs.declared.cell.Token.{Token}
-use Rattle.token_system.specs.Stores.{Valuation}
+use Rattle.token_system.specs.Stores.{StoreMap}
 use Rattle.token_system.proofs.Alike.{true_false}
 use Rattle.agent_core.specs.declared.node.CellDecl.{CellDecl}
 use Rattle.agent_core.specs.Agents.{Constraint}
@@ -58,7 +58,7 @@ module _ (p : CoreProgram) (table : List ℕ) (s : ℕ) (low : AreBelow p table 
   abbrev pub level_of : CellName → ℕ
   level_of q = slice_index table (cell_named p q)
 
-  abbrev pub Upto : ℕ → Valuation → Valuation → Type 0
+  abbrev pub Upto : ℕ → StoreMap → StoreMap → Type 0
   Upto = BelowUpto p table
 
   name-cell : (b : List ℕ) (x : ℕ × Token) → TokenFits p b x → cell_named p (name_of p b x.0) ≡ x.0
@@ -71,12 +71,12 @@ module _ (p : CoreProgram) (table : List ℕ) (s : ℕ) (low : AreBelow p table 
   name-level : (b : List ℕ) (x : ℕ × Token) → TokenFits p b x → level_of (name_of p b x.0) ≡ slice_index table x.0
   name-level b x f = ap (slice_index table) (name-cell b x f)
 
-  holds-upto : (k : ℕ) (b : List ℕ) (u w : Valuation) (x : ℕ × Token) → TokenFits p b x → slice_index table x.0 < k → Upto k u w → IsTrue (holds p b u x) → IsTrue (holds p b w x)
+  holds-upto : (k : ℕ) (b : List ℕ) (u w : StoreMap) (x : ℕ × Token) → TokenFits p b x → slice_index table x.0 < k → Upto k u w → IsTrue (holds p b u x) → IsTrue (holds p b w x)
   holds-upto k b u w x f lt upto h =
       subst (λ (o : Option CellDecl). IsTrue (holds_at o p b w x.0 x.1)) (sym f.found)
       (upto (name_of p b x.0) (subst (λ (m : ℕ). m < k) (sym (name-level b x f)) lt) f.decl x.1 f.named f.fits (subst (λ (o : Option CellDecl). IsTrue (holds_at o p b u x.0 x.1)) f.found h))
 
-  entails-upto : (k : ℕ) (b : List ℕ) (u w : Valuation) (c : Constraint) → ConstraintFits p b c → Each (λ x. slice_index table x.0 < k) c → Upto k u w → IsTrue (entails p b u c) → IsTrue (entails p b w c)
+  entails-upto : (k : ℕ) (b : List ℕ) (u w : StoreMap) (c : Constraint) → ConstraintFits p b c → Each (λ x. slice_index table x.0 < k) c → Upto k u w → IsTrue (entails p b u c) → IsTrue (entails p b w c)
   entails-upto k b u w [] f lt upto h = refl
   entails-upto k b u w (x ∷ c) f lt upto h =
       both _ _ (holds-upto k b u w x f.0 lt.0 upto (first_of_both (holds p b u x) (entails p b u c) h)) (entails-upto k b u w c f.1 lt.1 upto (second_of_both (holds p b u x) (entails p b u c) h))
@@ -87,13 +87,13 @@ module _ (p : CoreProgram) (table : List ℕ) (s : ℕ) (low : AreBelow p table 
   below_low : (k m : ℕ) (c : Constraint) → m ≤ k → Each (λ x. slice_index table x.0 < m) c → Each (λ x. slice_index table x.0 < k) c
   below_low k m c le h = Each-map (λ x. slice_index table x.0 < m) (λ x. slice_index table x.0 < k) (λ x lt. omega arith) c h
 
-  pub asked-upto : (k m : ℕ) (u w : Valuation) (path : List Guard) → m < k → Each (GuardFits p) path → Each (Under table m) path → Upto k u w → IsTrue (list_all (asked p u) path) → IsTrue (list_all (asked p w) path)
+  pub asked-upto : (k m : ℕ) (u w : StoreMap) (path : List Guard) → m < k → Each (GuardFits p) path → Each (Under table m) path → Upto k u w → IsTrue (list_all (asked p u) path) → IsTrue (list_all (asked p w) path)
   asked-upto k m u w [] lt f under upto h = refl
   asked-upto k m u w (Positive b c ∷ path) lt f under upto h =
       both _ _ (entails-upto k b u w c f.0 (weaken k m c lt under.0) upto (first_of_both (entails p b u c) (list_all (asked p u) path) h)) (asked-upto k m u w path lt f.1 under.1 upto (second_of_both (entails p b u c) (list_all (asked p u) path) h))
   asked-upto k m u w (Negative b c ∷ path) lt f under upto h = asked-upto k m u w path lt f.1 under.1 upto h
 
-  pub free-down : (k m : ℕ) (u w : Valuation) (path : List Guard) → m ≤ k → Each (GuardFits p) path → Each (Under table m) path → Upto k u w → IsTrue (list_all (free p w) path) → IsTrue (list_all (free p u) path)
+  pub free-down : (k m : ℕ) (u w : StoreMap) (path : List Guard) → m ≤ k → Each (GuardFits p) path → Each (Under table m) path → Upto k u w → IsTrue (list_all (free p w) path) → IsTrue (list_all (free p u) path)
   free-down k m u w [] le f under upto h = refl
   free-down k m u w (Positive b c ∷ path) le f under upto h = free-down k m u w path le f.1 under.1 upto h
   free-down k m u w (Negative b c ∷ path) le f under upto h =
@@ -135,11 +135,11 @@ module _ (p : CoreProgram) (table : List ℕ) (s : ℕ) (low : AreBelow p table 
       (a, least-below m told b)
 
   -- told tokens change no more than needed, stratum by stratum
-  pub tell_all-upto : (k m : ℕ) (b : List ℕ) (told : Constraint) (u w : Valuation) → ConstraintFits p b told → Each (λ x. m ≤ slice_index table x.0) told → IsStore p u → IsStore p w → Upto k u w
+  pub tell_all-upto : (k m : ℕ) (b : List ℕ) (told : Constraint) (u w : StoreMap) → ConstraintFits p b told → Each (λ x. m ≤ slice_index table x.0) told → IsStore p u → IsStore p w → Upto k u w
       → (m < k → IsTrue (entails p b w told)) → Upto k (tell_all p b told u) w
   tell_all-upto k m b [] u w f le iu iw upto sat = upto
   tell_all-upto k m b (x ∷ told) u w f le iu iw upto sat =
-      let next : Valuation = tell_at (slice_get p.cells x.0) p b u x.0 x.1 in
+      let next : StoreMap = tell_at (slice_get p.cells x.0) p b u x.0 x.1 in
       tell_all-upto k m b told next w f.1 le.1 (tells_one p b u x iu f.0).store iw (one_upto) (λ lt. second_of_both (holds p b w x) (entails p b w told) (sat lt))
     where
       one_upto : Upto k (tell_at (slice_get p.cells x.0) p b u x.0 x.1) w
@@ -150,15 +150,15 @@ module _ (p : CoreProgram) (table : List ℕ) (s : ℕ) (low : AreBelow p table 
           let below : m ≤ slice_index table x.0 = le.0 in
           subst (λ (o : Option CellDecl). IsTrue (holds_at o p b w x.0 x.1)) f.0.found (first_of_both (holds p b w x) (entails p b w told) (sat (omega arith)))))
 
-  pub below_of : (u w : Valuation) → ((k : ℕ) → Upto k u w) → Below p u w
+  pub below_of : (u w : StoreMap) → ((k : ℕ) → Upto k u w) → Below p u w
   below_of u w h q d t named fits = h (suc (level_of q)) q (omega arith) d t named fits
 
-  pub of_below : (u w : Valuation) → Below p u w → (k : ℕ) → Upto k u w
+  pub of_below : (u w : StoreMap) → Below p u w → (k : ℕ) → Upto k u w
   of_below u w h k q lt d t named fits = h q d t named fits
 
   abbrev pub system : System
   system = record {
-    Store = Valuation;
+    Store = StoreMap;
     Leaf = Leaf;
     IsStore = IsStore p;
     IsLeaf = LeafFits p table;

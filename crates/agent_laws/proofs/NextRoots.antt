@@ -4,7 +4,7 @@ use Rattle.std.specs.Prelude.{flat_map, if◌then◌else◌, filter}
 use Rattle.std.specs.List.{list_any}
 use Rattle.std.proofs.lemmas.List.Folds.{list_any-append}
 use Rattle.std.proofs.Math.Bool.{or-false, or_assoc, or_comm}
-use Rattle.token_system.specs.Stores.{Valuation}
+use Rattle.token_system.specs.Stores.{StoreMap}
 use Rattle.agent_core.specs.declared.node.Closure.{Closure}
 use Rattle.agent_core.specs.declared.node.Node.{Node}
 use Rattle.agent_core.specs.Agents.{Agent, Skip, Tell, Then, Else, Par, New, Hence, Next, agent_at}
@@ -33,23 +33,23 @@ any-each f g [] h = refl
 any-each f g (y ∷ ys) h = ap (λ b. b || list_any f ys) h.0 ∙ ap (λ b. g y || b) (any-each f g ys h.1)
 
 -- the suffixes of a longer list are those of the list, each longer, and the empty one
-any-suffixes : (F : List Valuation → Bool) (w : Valuation) (z : List Valuation) → list_any F (suffixes (z ++ w ∷ [])) ≡ (list_any (λ y. F (y ++ w ∷ [])) (suffixes z) || F [])
+any-suffixes : (F : List StoreMap → Bool) (w : StoreMap) (z : List StoreMap) → list_any F (suffixes (z ++ w ∷ [])) ≡ (list_any (λ y. F (y ++ w ∷ [])) (suffixes z) || F [])
 any-suffixes F w [] = ap (λ b. F (w ∷ []) || b) (or-false (F [])) ∙ sym (ap (λ b. b || F []) (or-false (F (w ∷ []))))
 any-suffixes F w (v ∷ z) = ap (λ b. F ((v ∷ z) ++ w ∷ []) || b) (any-suffixes F w z) ∙ sym (or_assoc (F ((v ∷ z) ++ w ∷ [])) (list_any (λ y. F (y ++ w ∷ [])) (suffixes z)) (F []))
 
 -- what differs at the empty suffix alone
-any-ends : (G H : List Valuation → Bool) (x : Bool) → ((v : Valuation) (y : List Valuation) → G (v ∷ y) ≡ H (v ∷ y)) → (G [] || x) ≡ H [] → (z : List Valuation) → (list_any G (suffixes z) || x) ≡ list_any H (suffixes z)
+any-ends : (G H : List StoreMap → Bool) (x : Bool) → ((v : StoreMap) (y : List StoreMap) → G (v ∷ y) ≡ H (v ∷ y)) → (G [] || x) ≡ H [] → (z : List StoreMap) → (list_any G (suffixes z) || x) ≡ list_any H (suffixes z)
 any-ends G H x same last [] = ap (λ b. b || x) (or-false (G [])) ∙ last ∙ sym (or-false (H []))
 any-ends G H x same last (v ∷ z) =
     or_assoc (G (v ∷ z)) (list_any G (suffixes z)) x ∙ ap (λ b. b || (list_any G (suffixes z) || x)) (same v z) ∙ ap (λ b. H (v ∷ z) || b) (any-ends G H x same last z)
 
-module _ (p : CoreProgram) (w : Valuation) (t : ℕ) where
+module _ (p : CoreProgram) (w : StoreMap) (t : ℕ) where
   module _ (P : Closure → Bool) where
     -- some root after this one passes
     abbrev after : Closure → Bool
     after r = list_any P (starts p w t r) || (stays p r && P r)
 
-    abbrev after_by : List Valuation → Closure → Bool
+    abbrev after_by : List StoreMap → Closure → Bool
     after_by [] r = list_any P (starts p w t r)
     after_by (v ∷ z) r = after r
 
@@ -67,7 +67,7 @@ module _ (p : CoreProgram) (w : Valuation) (t : ℕ) where
     stay : (n : ℕ) (b : List ℕ) (a : Agent) → agent_at p.nodes n ≡ Hence a → (list_any P (starts p w t (closure (suc n) b)) || P (closure (suc n) b)) ≡ after (closure (suc n) b)
     stay n b a e = sym (ap (λ x. list_any P (starts p w t (closure (suc n) b)) || (is_hence x && P (closure (suc n) b))) e)
 
-    started-more : (a : Agent) (z : List Valuation) (n : ℕ) (b : List ℕ) (s : ℕ) → StandsAt Node p.nodes n (listing n a) → s + length z ≡ t
+    started-more : (a : Agent) (z : List StoreMap) (n : ℕ) (b : List ℕ) (s : ℕ) → StandsAt Node p.nodes n (listing n a) → s + length z ≡ t
         → list_any P (started p (z ++ w ∷ []) a n b s) ≡ list_any (after_by z) (started p z a n b s)
     started-more a [] n b s at e =
         let now : s ≡ t = omega arith in
@@ -84,14 +84,14 @@ module _ (p : CoreProgram) (w : Valuation) (t : ℕ) where
     started-more (New cell a) (v ∷ z) n b s at e = started-more a (v ∷ z) (suc n) (b ++ s ∷ []) s (stands-tail at) e
     started-more (Next a) (v ∷ z) n b s at e = started-more a z (suc n) b (s + 1) (stands-tail at) (omega arith) ∙ next_here z
       where
-        next_here : (z : List Valuation) → list_any (after_by z) (started p z a (suc n) b (s + 1)) ≡ list_any after (started p z a (suc n) b (s + 1))
+        next_here : (z : List StoreMap) → list_any (after_by z) (started p z a (suc n) b (s + 1)) ≡ list_any after (started p z a (suc n) b (s + 1))
         next_here [] = ap (λ x. x || false) (no_stay n b a (listed_tree p.nodes n (Next a) at))
         next_here (u ∷ z) = refl
     started-more (Hence a) (v ∷ z) n b s at e =
-        let from : List Valuation → ℕ = λ y. s + 1 + length (z ++ w ∷ []) - length y in
-        let begun : List Valuation → ℕ = λ y. s + 1 + length z - length y in
+        let from : List StoreMap → ℕ = λ y. s + 1 + length (z ++ w ∷ []) - length y in
+        let begun : List StoreMap → ℕ = λ y. s + 1 + length z - length y in
         let long = length-append z (w ∷ []) in
-        let shift : (y : List Valuation) → from (y ++ w ∷ []) ≡ begun y = λ y. let m = length-append y (w ∷ []) in omega arith in
+        let shift : (y : List StoreMap) → from (y ++ w ∷ []) ≡ begun y = λ y. let m = length-append y (w ∷ []) in omega arith in
         any-flat P (λ y. started p y a (suc n) b (from y)) (suffixes (z ++ w ∷ []))
         ∙ any-suffixes (λ y. list_any P (started p y a (suc n) b (from y))) w z
         ∙ ap (λ x. list_any (λ y. list_any P (started p (y ++ w ∷ []) a (suc n) b (from (y ++ w ∷ [])))) (suffixes z) || x) (or-false (P (closure (suc n) b)))
@@ -114,7 +114,7 @@ any-or : (F G : Closure → Bool) (rs : List Closure) → list_any (λ r. F r ||
 any-or F G [] = refl
 any-or F G (r ∷ rs) = ap (λ x. (F r || G r) || x) (any-or F G rs) ∙ or_pairs (F r) (G r) (list_any F rs) (list_any G rs)
 
-next-any : (p : CoreProgram) (w : Valuation) (t : ℕ) (P : Closure → Bool) (rs : List Closure) → list_any (after p w t P) rs ≡ list_any P (next_of p w t rs)
+next-any : (p : CoreProgram) (w : StoreMap) (t : ℕ) (P : Closure → Bool) (rs : List Closure) → list_any (after p w t P) rs ≡ list_any P (next_of p w t rs)
 next-any p w t P rs =
     any-or (λ r. list_any P (starts p w t r)) (λ r. stays p r && P r) rs
     ∙ or_comm (list_any (λ r. list_any P (starts p w t r)) rs) (list_any (λ r. stays p r && P r) rs)
@@ -122,7 +122,7 @@ next-any p w t P rs =
     ∙ ap (λ x. list_any P (filter (stays p) rs) || x) (sym (any-flat P (starts p w t) rs))
     ∙ sym (list_any-append P (filter (stays p) rs) (flat_map (starts p w t) rs))
 
-more : (p : CoreProgram) (z : List Valuation) (w : Valuation) → IsListing p.nodes → (P : Closure → Bool) → list_any P (started p (z ++ w ∷ []) (agent_at p.nodes 0) 0 [] 0) ≡ list_any (after p w (length z) P) (started p z (agent_at p.nodes 0) 0 [] 0)
+more : (p : CoreProgram) (z : List StoreMap) (w : StoreMap) → IsListing p.nodes → (P : Closure → Bool) → list_any P (started p (z ++ w ∷ []) (agent_at p.nodes 0) 0 [] 0) ≡ list_any (after p w (length z) P) (started p z (agent_at p.nodes 0) 0 [] 0)
 more p [] w tree P =
     let start : 0 + 0 ≡ 0 = omega arith in
     started-more p w 0 P (agent_at p.nodes 0) [] 0 [] 0 ((root_place p.nodes tree).listed) start ∙ ap (λ x. x || false) (sym (or-false (list_any P (starts p w 0 (closure 0 [])))))
@@ -131,7 +131,7 @@ more p (v ∷ z) w tree P =
     started-more p w (length (v ∷ z)) P (agent_at p.nodes 0) (v ∷ z) 0 [] 0 ((root_place p.nodes tree).listed) start
 
 -- the roots after one more closed store, from the roots before it
-pub roots-next : (p : CoreProgram) (z : List Valuation) (w : Valuation) → IsListing p.nodes → roots p (z ++ w ∷ []) ≡ sorted (next_of p w (length z) (roots p z))
+pub roots-next : (p : CoreProgram) (z : List StoreMap) (w : StoreMap) → IsListing p.nodes → roots p (z ++ w ∷ []) ≡ sorted (next_of p w (length z) (roots p z))
 roots-next p z w tree =
     same_sorted (started p (z ++ w ∷ []) (agent_at p.nodes 0) 0 [] 0) (next_of p w (length z) (roots p z)) (λ P.
     more p z w tree P ∙ sym (sorted-any (after p w (length z) P) (started p z (agent_at p.nodes 0) 0 [] 0)) ∙ next-any p w (length z) P (roots p z))

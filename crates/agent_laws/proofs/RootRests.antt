@@ -6,7 +6,7 @@ use Rattle.std.proofs.lemmas.List.Folds.{list_all-append}
 use Rattle.std.specs.declared.cmp.Ordering.{Ordering}
 use Rattle.std.specs.declared.cmp.Ordering.TheVariants.{Less, Equal, Greater}
 use Rattle.std.proofs.Math.Bool.{and-true, and_self_left}
-use Rattle.token_system.specs.Stores.{Valuation}
+use Rattle.token_system.specs.Stores.{StoreMap}
 use Rattle.agent_core.specs.declared.node.Closure.{Closure}
 use Rattle.agent_core.specs.declared.node.Node.{Node}
 use Rattle.agent_core.specs.Agents.{Agent, Skip, Tell, Then, Else, Par, New, Hence, Next, agent_at}
@@ -25,14 +25,14 @@ use Rattle.agent_laws.proofs.Eachs.{Each-map}
 use Rattle.agent_laws.proofs.Sorting.{closure_anti}
 
 -- each suffix is at most as long
-longer : (n : ℕ) (ys : List (List Valuation)) → Each (λ y. length y ≤ n) ys → Each (λ y. length y ≤ suc n) ys
+longer : (n : ℕ) (ys : List (List StoreMap)) → Each (λ y. length y ≤ n) ys → Each (λ y. length y ≤ suc n) ys
 longer n ys h = Each-map (λ y. length y ≤ n) (λ y. length y ≤ suc n) (λ y le. omega arith) ys h
 
-pub suffixes-length : (z : List Valuation) → Each (λ y. length y ≤ length z) (suffixes z)
+pub suffixes-length : (z : List StoreMap) → Each (λ y. length y ≤ length z) (suffixes z)
 suffixes-length [] = (omega arith, tt)
 suffixes-length (w ∷ z) = (omega arith, longer (length z) (suffixes z) (suffixes-length z))
 
-module _ (p : CoreProgram) (u v : Valuation) (t : ℕ) where
+module _ (p : CoreProgram) (u v : StoreMap) (t : ℕ) where
   abbrev root_rests : Closure → Bool
   root_rests r = rests p r.node r.births t u v
 
@@ -64,11 +64,11 @@ module _ (p : CoreProgram) (u v : Valuation) (t : ℕ) where
   par_started : (x y : Bool) (rs qs : List Closure) → x ≡ all_rest rs → y ≡ all_rest qs → (x && y) ≡ all_rest (rs ++ qs)
   par_started x y rs qs h g = ap (λ b. b && y) h ∙ ap (λ b. all_rest rs && b) g ∙ sym (list_all-append root_rests rs qs)
 
-  each_started : (f : List Valuation → Bool) (g : List Valuation → List Closure) (ys : List (List Valuation)) → Each (λ y. f y ≡ all_rest (g y)) ys → list_all f ys ≡ all_rest (flat_map g ys)
+  each_started : (f : List StoreMap → Bool) (g : List StoreMap → List Closure) (ys : List (List StoreMap)) → Each (λ y. f y ≡ all_rest (g y)) ys → list_all f ys ≡ all_rest (flat_map g ys)
   each_started f g [] h = refl
   each_started f g (y ∷ ys) h = par_started (f y) (list_all f ys) (g y) (flat_map g ys) h.0 (each_started f g ys h.1)
 
-  pub started-rests : (a : Agent) (z : List Valuation) (n : ℕ) (b : List ℕ) (s : ℕ) → StandsAt Node p.nodes n (listing n a) → s + length z ≡ t
+  pub started-rests : (a : Agent) (z : List StoreMap) (n : ℕ) (b : List ℕ) (s : ℕ) → StandsAt Node p.nodes n (listing n a) → s + length z ≡ t
       → rests_after p u v z a b s ≡ all_rest (started p z a n b s)
   started-rests a [] n b s at e =
       let now : s ≡ t = omega arith in
@@ -88,7 +88,7 @@ module _ (p : CoreProgram) (u v : Valuation) (t : ℕ) where
       (λ y le. started-rests a y (suc n) b (s + 1 + length z - length y) (stands-tail at) (omega arith)) (suffixes z) (suffixes-length z))
 
 -- what is seen over z is what the closures that are started now do
-pub obs-roots : (p : CoreProgram) (z : List Valuation) (u v : Valuation) → IsListing p.nodes → obs p 0 [] 0 z u v ≡ roots_rest p (roots p z) (length z) u v
+pub obs-roots : (p : CoreProgram) (z : List StoreMap) (u v : StoreMap) → IsListing p.nodes → obs p 0 [] 0 z u v ≡ roots_rest p (roots p z) (length z) u v
 obs-roots p z u v tree =
     let start : 0 + length z ≡ length z = omega arith in
     started-rests p u v (length z) (agent_at p.nodes 0) z 0 [] 0 ((root_place p.nodes tree).listed) start ∙ sym (sorted-rests p u v (length z) (started p z (agent_at p.nodes 0) 0 [] 0))

@@ -1,6 +1,6 @@
 -- What is started at an instant are closures of the program.
 use Rattle.std.proofs.Common.{◌≡◌, ℕ, suc, ◌+◌, ◌-◌, List, [], ◌∷◌, ◌++◌, length, refl, sym, ◌∙◌, arith, length-append}
-use Rattle.token_system.specs.Stores.{Valuation}
+use Rattle.token_system.specs.Stores.{StoreMap}
 use Rattle.agent_core.specs.declared.node.Closure.{Closure}
 use Rattle.agent_core.specs.Agents.{Agent, Skip, Tell, Then, Else, Par, New, Hence, Next, agent_at}
 use Rattle.agent_core.specs.Programs.{CoreProgram}
@@ -20,7 +20,7 @@ module _ (p : CoreProgram) where
   abbrev pub IsOwn : Closure → Type 0
   IsOwn r = IsClosure p r.node r.births
 
-  pub started-closures : (a : Agent) (z : List Valuation) (n : ℕ) (b : List ℕ) (s : ℕ) (locals : List ℕ) → Place p.nodes n locals a → length b ≡ length locals → Each IsOwn (started p z a n b s)
+  pub started-closures : (a : Agent) (z : List StoreMap) (n : ℕ) (b : List ℕ) (s : ℕ) (locals : List ℕ) → Place p.nodes n locals a → length b ≡ length locals → Each IsOwn (started p z a n b s)
   started-closures a [] n b s locals at e = (record { node = (size-within p.nodes n locals a at).0; long = e ∙ sym (depth_of-place p.nodes n locals a at) }, tt)
   started-closures Skip (w ∷ z) n b s locals at e = tt
   started-closures (Tell c) (w ∷ z) n b s locals at e = tt
@@ -40,5 +40,5 @@ module _ (p : CoreProgram) where
       (λ y. started-closures a y (suc n) b (s + 1 + length z - length y) locals ((Place-goes_down p.nodes).hence_body n locals a at) e) (suffixes z)
 
   -- the roots of an instant are closures of the program
-  pub roots-closures : IsWellFormed p → (z : List Valuation) → Each IsOwn (roots p z)
+  pub roots-closures : IsWellFormed p → (z : List StoreMap) → Each IsOwn (roots p z)
   roots-closures is z = each_sorted IsOwn (started p z (agent_at p.nodes 0) 0 [] 0) (started-closures (agent_at p.nodes 0) z 0 [] 0 [] (root_place p.nodes is.tree) refl)

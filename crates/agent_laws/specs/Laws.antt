@@ -1,7 +1,7 @@
 -- What is proved of programs: where they have one output and one run, and what their leaves and their roots have to do with it.
 use Rattle.std.specs.Prelude.{◌≡◌, ℕ, List, [], ◌∷◌, ◌++◌, length, All}
 use Rattle.std.specs.List.{list_all}
-use Rattle.token_system.specs.Stores.{Valuation}
+use Rattle.token_system.specs.Stores.{StoreMap}
 use Rattle.agent_core.specs.declared.node.Closure.{Closure}
 use Rattle.agent_core.specs.Programs.{CoreProgram}
 use Rattle.agent_core.specs.WellFormed.{IsWellFormed}
@@ -34,27 +34,27 @@ SortedIsInOrder = (cs : List Closure) → IsSortedOf cs (sorted cs) × ((xs : Li
 abbrev pub RootsHaveOneOutput : Type 0
 RootsHaveOneOutput =
     (p : CoreProgram) (table : List ℕ) → IsWellFormed p → Stratifies p table
-    → (rs : List Closure) → AreClosures p rs → (t : ℕ) (i : Valuation) → IsStore p i → ExactlyOne (IsOutputOf p rs t i)
+    → (rs : List Closure) → AreClosures p rs → (t : ℕ) (i : StoreMap) → IsStore p i → ExactlyOne (IsOutputOf p rs t i)
 
 -- and that output is the input with what the leaves tell that it runs
 abbrev pub OutputsAreTold : Type 0
 OutputsAreTold =
     (p : CoreProgram) (table : List ℕ) → IsWellFormed p → Stratifies p table
-    → (rs : List Closure) → AreClosures p rs → (t : ℕ) (i v : Valuation) → IsOutputOf p rs t i v → tell_ran p v (leaves p rs t) i ≡ v
+    → (rs : List Closure) → AreClosures p rs → (t : ℕ) (i v : StoreMap) → IsOutputOf p rs t i v → tell_ran p v (leaves p rs t) i ≡ v
 
 -- where u is below v, closures rest under (u, v) exactly where each of their leaves does
 abbrev pub RestsByLeaves : Type 0
 RestsByLeaves =
-    (p : CoreProgram) → IsWellFormed p → (rs : List Closure) → AreClosures p rs → (t : ℕ) (u v : Valuation) → Below p u v
+    (p : CoreProgram) → IsWellFormed p → (rs : List Closure) → AreClosures p rs → (t : ℕ) (u v : StoreMap) → Below p u v
     → roots_rest p rs t u v ≡ list_all (leaf_rests p u v) (leaves p rs t)
 
 -- after closed stores the program rests exactly where the roots of the instant do
 abbrev pub RestsByRoots : Type 0
-RestsByRoots = (p : CoreProgram) → IsWellFormed p → (z : List Valuation) (u v : Valuation) → obs p 0 [] 0 z u v ≡ roots_rest p (roots p z) (length z) u v
+RestsByRoots = (p : CoreProgram) → IsWellFormed p → (z : List StoreMap) (u v : StoreMap) → obs p 0 [] 0 z u v ≡ roots_rest p (roots p z) (length z) u v
 
 -- the roots of an instant are closures of the program, and at instant 0 the root alone
 abbrev pub RootsAreClosures : Type 0
-RootsAreClosures = (p : CoreProgram) → IsWellFormed p → (z : List Valuation) → AreClosures p (roots p z)
+RootsAreClosures = (p : CoreProgram) → IsWellFormed p → (z : List StoreMap) → AreClosures p (roots p z)
 
 abbrev pub StartsAtRoot : Type 0
 StartsAtRoot = (p : CoreProgram) → roots p [] ≡ closure 0 [] ∷ []
@@ -63,16 +63,16 @@ StartsAtRoot = (p : CoreProgram) → roots p [] ≡ closure 0 [] ∷ []
 abbrev pub ProgramHasOneOutput : Type 0
 ProgramHasOneOutput =
     (p : CoreProgram) (table : List ℕ) → IsWellFormed p → Stratifies p table
-    → (z : List Valuation) (i : Valuation) → IsStore p i → ExactlyOne (IsOutput p z i)
+    → (z : List StoreMap) (i : StoreMap) → IsStore p i → ExactlyOne (IsOutput p z i)
 
 -- and exactly one run on each list of inputs
 abbrev pub ProgramHasOneRun : Type 0
 ProgramHasOneRun =
     (p : CoreProgram) (table : List ℕ) → IsWellFormed p → Stratifies p table
-    → (ins : List Valuation) → All (IsStore p) ins → ExactlyOne (IsRun p ins)
+    → (ins : List StoreMap) → All (IsStore p) ins → ExactlyOne (IsRun p ins)
 
 -- after one more closed store: the roots that stay, and those that the leaves start which the store runs
 abbrev pub NextRootsFollow : Type 0
 NextRootsFollow =
-    (p : CoreProgram) → IsWellFormed p → (z : List Valuation) (w : Valuation)
+    (p : CoreProgram) → IsWellFormed p → (z : List StoreMap) (w : StoreMap)
     → roots p (z ++ w ∷ []) ≡ sorted (next_of p w (length z) (roots p z))

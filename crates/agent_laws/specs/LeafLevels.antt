@@ -1,6 +1,6 @@
 -- The levels of leaves, and what the leaves that a store runs tell. This project's own.
 use Rattle.std.specs.Prelude.{ℕ, min, cond, List, [], ◌∷◌, slice_index}
-use Rattle.token_system.specs.Stores.{Valuation}
+use Rattle.token_system.specs.Stores.{StoreMap}
 use Rattle.agent_core.specs.Agents.{Constraint}
 use Rattle.agent_core.specs.Programs.{CoreProgram}
 use Rattle.agent_core.specs.Tellings.{tell_all}
@@ -16,6 +16,6 @@ abbrev pub leaf_level : List ℕ → ℕ → Leaf → ℕ
 leaf_level table s l = least_told table s (tells l.agent)
 
 -- the store after those of the leaves have told that v runs
-abbrev pub tell_ran : CoreProgram → Valuation → List Leaf → Valuation → Valuation
+abbrev pub tell_ran : CoreProgram → StoreMap → List Leaf → StoreMap → StoreMap
 tell_ran p v [] u = u
 tell_ran p v (l ∷ ls) u = tell_ran p v ls (cond (runs p v l) (tell_all p l.births (tells l.agent) u) u)

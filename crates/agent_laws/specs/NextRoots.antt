@@ -1,6 +1,6 @@
 -- The roots after one more closed store, from the roots before it. This project's own.
 use Rattle.std.specs.Prelude.{ℕ, zero, suc, Bool, true, false, List, [], ◌∷◌, ◌++◌, flat_map, filter}
-use Rattle.token_system.specs.Stores.{Valuation}
+use Rattle.token_system.specs.Stores.{StoreMap}
 use Rattle.agent_core.specs.declared.node.Closure.{Closure}
 use Rattle.agent_core.specs.Agents.{Agent, Hence, agent_at}
 use Rattle.agent_core.specs.Programs.{CoreProgram}
@@ -20,9 +20,9 @@ abbrev pub stays : CoreProgram → Closure → Bool
 stays p r = is_hence_body p r.node
 
 -- what is started by a root's leaves that the store runs, where t is the store's instant
-abbrev pub starts : CoreProgram → Valuation → ℕ → Closure → List Closure
+abbrev pub starts : CoreProgram → StoreMap → ℕ → Closure → List Closure
 starts p w t r = started p (w ∷ []) (agent_at p.nodes r.node) r.node r.births t
 
 -- the roots that stay, and those that are started
-abbrev pub next_of : CoreProgram → Valuation → ℕ → List Closure → List Closure
+abbrev pub next_of : CoreProgram → StoreMap → ℕ → List Closure → List Closure
 next_of p w t rs = filter (stays p) rs ++ flat_map (starts p w t) rs

@@ -4,7 +4,7 @@ use Rattle.token_system.specs.declared.cell.Token.{Token}
 use Rattle.token_system.specs.declared.name.CellName.{CellName}
 use Rattle.token_system.specs.declared.name.CellName.TheVariants.{Declared, Local}
 use Rattle.token_system.specs.Tokens.{Fits}
-use Rattle.token_system.specs.Stores.{Valuation, store_entails}
+use Rattle.token_system.specs.Stores.{StoreMap, store_entails}
 use Rattle.agent_core.specs.declared.node.CellDecl.{CellDecl}
 use Rattle.agent_core.specs.declared.node.Node.{Node}
 use Rattle.agent_core.specs.declared.node.Node.TheVariants as nodes
@@ -23,7 +23,7 @@ cell_named p (Declared n) = n
 cell_named p (Local m births) = new_cell (slice_get p.nodes m)
 
 -- of the cells of strata below k, w entails each token that u entails
-abbrev pub BelowUpto : CoreProgram → List ℕ → ℕ → Valuation → Valuation → Type 0
+abbrev pub BelowUpto : CoreProgram → List ℕ → ℕ → StoreMap → StoreMap → Type 0
 BelowUpto p table k u w =
     (n : CellName) → slice_index table (cell_named p n) < k
     → (d : CellDecl) (t : Token) → Names p n d → Fits d.cell t → IsTrue (store_entails u n d.cell t) → IsTrue (store_entails w n d.cell t)
@@ -33,7 +33,7 @@ abbrev pub AreBelow : CoreProgram → List ℕ → ℕ → Type 0
 AreBelow p table s = (c : ℕ) → c < length p.cells → slice_index table c < s
 
 -- w lies between the input and the output, and of the strata below k it has all that the output has
-pub record IsOnWay (p : CoreProgram) (table : List ℕ) (input output : Valuation) (k : ℕ) (w : Valuation) : Type 0 where
+pub record IsOnWay (p : CoreProgram) (table : List ℕ) (input output : StoreMap) (k : ℕ) (w : StoreMap) : Type 0 where
   pub store : IsStore p w
   pub above : Below p input w
   pub below : Below p w output

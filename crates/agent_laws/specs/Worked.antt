@@ -5,7 +5,7 @@ use Rattle.token_system.specs.declared.cell.Kind.TheVariants as kinds
 use Rattle.token_system.specs.declared.cell.Token.TheVariants.{On}
 use Rattle.token_system.specs.declared.cell.Value.TheVariants as values
 use Rattle.token_system.specs.declared.name.CellName.TheVariants.{Declared}
-use Rattle.token_system.specs.Stores.{Valuation}
+use Rattle.token_system.specs.Stores.{StoreMap}
 use Rattle.agent_core.specs.declared.node.CellDecl.{CellDecl}
 use Rattle.agent_core.specs.Agents.{Constraint, Tell, Else, Par, New, Hence}
 use Rattle.agent_core.specs.Programs.{CoreProgram}
@@ -28,7 +28,7 @@ abbrev pub by_default : CoreProgram
 by_default = record { cells = a_decl ∷ signal 98 ∷ []; declared = 2; nodes = listing 0 (Else a_on (Tell (on 1))) }
 
 -- the store in which `b` is on
-abbrev pub only_b : Valuation
+abbrev pub only_b : StoreMap
 only_b = insert empty (Declared 1) (values.Signal true false)
 
 -- `b` stands above `a`, and no lesser table serves; where nothing is told `b` is, and where `a` is told nothing more is
@@ -52,7 +52,7 @@ pub record StandsOnItself : Type 0 where
   pub first : IsFirstCase self_defeating own_case
 
 -- how many leaves the program has after these closed stores
-abbrev pub leaf_count : CoreProgram → List Valuation → ℕ
+abbrev pub leaf_count : CoreProgram → List StoreMap → ℕ
 leaf_count p z = length (leaves p (roots p z) (length z))
 
 -- `hence hence a`

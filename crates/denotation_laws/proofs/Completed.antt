@@ -4,7 +4,7 @@ use Rattle.std.specs.Prelude.{IsTrue, slice_get, slice_index, nat_le, min}
 use Rattle.std.proofs.lemmas.Bool.Decides.{nat_tests}
 use Rattle.std.proofs.Math.Nat.{min-le_left, min-le_right}
 use Rattle.std.proofs.lemmas.Option.{slice_get_within}
-use Rattle.token_system.specs.Stores.{Valuation}
+use Rattle.token_system.specs.Stores.{StoreMap}
 use Rattle.token_system.proofs.Alike.{true_false}
 use Rattle.agent_core.specs.declared.node.Closure.{Closure}
 use Rattle.agent_core.specs.Agents.{Constraint, agent_at}
@@ -63,18 +63,18 @@ level-upto table s k (x ∷ c) low le = inr (go (nat_le (slice_index table x.0) 
 -- HOW MANY LEAVES ARE LEFT
 
 module _ (p : CoreProgram) where
-  abbrev pub has_told : Valuation → Leaf → Bool
+  abbrev pub has_told : StoreMap → Leaf → Bool
   has_told u l = entails p l.births u (tells l.agent)
 
   -- how many of the leaves tell something that the store does not entail
-  abbrev pub untold : Valuation → List Leaf → ℕ
+  abbrev pub untold : StoreMap → List Leaf → ℕ
   untold u [] = 0
   untold u (l ∷ ls) = cond (has_told u l) 0 1 + untold u ls
 
-  abbrev Rises : Valuation → Valuation → Leaf → Type 0
+  abbrev Rises : StoreMap → StoreMap → Leaf → Type 0
   Rises u w l = IsTrue (has_told u l) → IsTrue (has_told w l)
 
-  untold-le : (u w : Valuation) (ls : List Leaf) → Each (Rises u w) ls → untold w ls ≤ untold u ls
+  untold-le : (u w : StoreMap) (ls : List Leaf) → Each (Rises u w) ls → untold w ls ≤ untold u ls
   untold-le u w [] h = omega arith
   untold-le u w (l ∷ ls) h = let ih = untold-le u w ls h.1 in go (has_told u l) (has_told w l) h.0 ih
     where
@@ -84,7 +84,7 @@ module _ (p : CoreProgram) where
       go false true f le = omega arith
       go false false f le = omega arith
 
-  untold-less : (u w : Valuation) (ls : List Leaf) (l : Leaf) → Each (Rises u w) ls → In l ls → has_told u l ≡ false → has_told w l ≡ true → untold w ls + 1 ≤ untold u ls
+  untold-less : (u w : StoreMap) (ls : List Leaf) (l : Leaf) → Each (Rises u w) ls → In l ls → has_told u l ≡ false → has_told w l ≡ true → untold w ls + 1 ≤ untold u ls
   untold-less u w [] l h i e f = absurd i
   untold-less u w (x ∷ ls) l h (inl same) e f =
       go (has_told u x) (has_told w x) (ap (has_told u) (sym same) ∙ e) (ap (has_told w) (sym same) ∙ f) (untold-le u w ls h.1)
@@ -112,7 +112,7 @@ is_false true h = absurd (true_false (sym h))
 is_false false h = refl
 
 -- the leaves of a walk from the root are those of the program
-pub root-leaves : (p : CoreProgram) (z : List Valuation) (t : ℕ) → t ≡ length z → leaves_since p t 0 [] z ≡ leaves_now p z
+pub root-leaves : (p : CoreProgram) (z : List StoreMap) (t : ℕ) → t ≡ length z → leaves_since p t 0 [] z ≡ leaves_now p z
 root-leaves p z t e =
     let start : t - length z ≡ 0 = omega arith in
     ap (λ (s : ℕ). leaves p (started p z (agent_at p.nodes 0) 0 [] s) t) start ∙ ap (λ (m : ℕ). leaves p (started p z (agent_at p.nodes 0) 0 [] 0) m) e
@@ -123,22 +123,22 @@ fewer-left x y a true e le = omega arith
 fewer-left x y a false e le = absurd (true_false (sym e))
 
 -- where none told, none is to tell
-pub calm-after : (p : CoreProgram) (table : List ℕ) (z : List Valuation) (k : ℕ) (u w : Valuation) (told : Bool) → TellsOne p table k (leaves_now p z) u told w → told ≡ false → Each (λ l. is_due p table k w l ≡ false) (leaves_now p z)
+pub calm-after : (p : CoreProgram) (table : List ℕ) (z : List StoreMap) (k : ℕ) (u w : StoreMap) (told : Bool) → TellsOne p table k (leaves_now p z) u told w → told ≡ false → Each (λ l. is_due p table k w l ≡ false) (leaves_now p z)
 calm-after p table z k u w true h e = absurd (true_false e)
-calm-after p table z k u w false h e = subst (λ (x : Valuation). Each (λ l. is_due p table k x l ≡ false) (leaves_now p z)) (sym h.1) h.0
+calm-after p table z k u w false h e = subst (λ (x : StoreMap). Each (λ l. is_due p table k x l ≡ false) (leaves_now p z)) (sym h.1) h.0
 
-module _ (p : CoreProgram) (table : List ℕ) (is : IsWellFormed p) (strat : Stratifies p table) (z : List Valuation) where
+module _ (p : CoreProgram) (table : List ℕ) (is : IsWellFormed p) (strat : Stratifies p table) (z : List StoreMap) where
   abbrev rs : List Closure
   rs = started p z (agent_at p.nodes 0) 0 [] 0
 
   own : Each (IsOwn p) rs
   own = started-closures p (agent_at p.nodes 0) z 0 [] 0 [] (root_place p.nodes is.tree) refl
 
-  obs-started : (u v : Valuation) → obs p 0 [] 0 z u v ≡ roots_rest p rs (length z) u v
+  obs-started : (u v : StoreMap) → obs p 0 [] 0 z u v ≡ roots_rest p rs (length z) u v
   obs-started u v = started-rests p u v (length z) (agent_at p.nodes 0) z 0 [] 0 (root_place p.nodes is.tree).listed (omega arith)
 
   -- an output of the program is one of the closures that are started now
-  of_started : (i v : Valuation) → IsOutput p z i v → IsOutputOf p rs (length z) i v
+  of_started : (i v : StoreMap) → IsOutput p z i v → IsOutputOf p rs (length z) i v
   of_started i v out = record {
     given = out.given;
     store = out.store;
@@ -159,7 +159,7 @@ module _ (p : CoreProgram) (table : List ℕ) (is : IsWellFormed p) (strat : Str
 
   -- ONE LEAF MORE
 
-  module _ (k : ℕ) (u w : Valuation) where
+  module _ (k : ℕ) (u w : StoreMap) where
     -- the store after a leaf has told is one of the program
     pub told-store : (told : Bool) → IsStore p u → TellsOne p table k (leaves_now p z) u told w → IsStore p w
     told-store false iu h = subst (IsStore p) (sym h.1) iu
@@ -169,7 +169,7 @@ module _ (p : CoreProgram) (table : List ℕ) (is : IsWellFormed p) (strat : Str
 
     -- and there are fewer leaves left
     pub told-fewer : (told : Bool) → IsStore p u → TellsOne p table k (leaves_now p z) u told w → untold p w (leaves_now p z) + cond told 1 0 ≤ untold p u (leaves_now p z)
-    told-fewer false iu h = let e : untold p w (leaves_now p z) ≡ untold p u (leaves_now p z) = ap (λ (x : Valuation). untold p x (leaves_now p z)) h.1 in omega arith
+    told-fewer false iu h = let e : untold p w (leaves_now p z) ≡ untold p u (leaves_now p z) = ap (λ (x : StoreMap). untold p x (leaves_now p z)) h.1 in omega arith
     told-fewer true iu h =
         let l : Leaf = h.0 in
         let all = fit high (all_below p table) in
@@ -180,10 +180,10 @@ module _ (p : CoreProgram) (table : List ℕ) (is : IsWellFormed p) (strat : Str
         let fresh = is_false (has_told p u l) (second_of_both (is_upto table k (tells l.agent)) (not (has_told p u l)) news) in
         untold-less p u w (leaves_now p z) l
         (Each-map (LeafFits p table) (Rises p u w) (λ x g. entails-above p x.births u w (tells x.agent) g.told above) (leaves_now p z) all)
-        h.1 fresh (ap (λ (x : Valuation). has_told p x l) h.3 ∙ tell_all-entails p l.births (tells l.agent) u iu f)
+        h.1 fresh (ap (λ (x : StoreMap). has_told p x l) h.3 ∙ tell_all-entails p l.births (tells l.agent) u iu f)
 
     -- it is still on the way to each output
-    pub told-on_way : (told : Bool) (i v : Valuation) → IsOutput p z i v → TellsOne p table k (leaves_now p z) u told w → IsOnWay p table i v k u → IsOnWay p table i v k w
+    pub told-on_way : (told : Bool) (i v : StoreMap) → IsOutput p z i v → TellsOne p table k (leaves_now p z) u told w → IsOnWay p table i v k u → IsOnWay p table i v k w
     told-on_way false i v out h way = subst (IsOnWay p table i v k) (sym h.1) way
     told-on_way true i v out h way =
         let l : Leaf = h.0 in
@@ -194,7 +194,7 @@ module _ (p : CoreProgram) (table : List ℕ) (is : IsWellFormed p) (strat : Str
         subst (IsOnWay p table i v k) (sym h.3) (tell-on_way p table high (all_below p table) is strat rs own (length z) i v (of_started i v out) k u at.0 l way at.1 low run)
 
   -- a leaf that is not to tell has told, where its level is low enough
-  not_due : (k : ℕ) (u : Valuation) (l : Leaf) → LeafFits p table l → is_due p table k u l ≡ false → leaf_level table high l ≤ k → IsTrue (runs p u l) → IsTrue (has_told p u l)
+  not_due : (k : ℕ) (u : StoreMap) (l : Leaf) → LeafFits p table l → is_due p table k u l ≡ false → leaf_level table high l ≤ k → IsTrue (runs p u l) → IsTrue (has_told p u l)
   not_due k u l f e le run = go (level-upto table high k (tells l.agent) (cells_low l.births (tells l.agent) f.told) le)
     where
       all_but : (a b c : Bool) → (a && (b && not c)) ≡ false → IsTrue a → IsTrue b → IsTrue c
@@ -208,7 +208,7 @@ module _ (p : CoreProgram) (table : List ℕ) (is : IsWellFormed p) (strat : Str
       go (inr upto) = all_but (runs p u l) (is_upto table k (tells l.agent)) (has_told p u l) e run upto
 
   -- where no leaf is left to tell, the stratum stands
-  pub stratum-done : (k : ℕ) (u i v : Valuation) → IsOutput p z i v → Each (λ l. is_due p table k u l ≡ false) (leaves_now p z) → IsOnWay p table i v k u → IsOnWay p table i v (k + 1) u
+  pub stratum-done : (k : ℕ) (u i v : StoreMap) → IsOutput p z i v → Each (λ l. is_due p table k u l ≡ false) (leaves_now p z) → IsOnWay p table i v k u → IsOnWay p table i v (k + 1) u
   stratum-done k u i v out calm way =
       let next : suc k ≡ k + 1 = omega arith in
       subst (λ (m : ℕ). IsOnWay p table i v m u) next
@@ -216,9 +216,9 @@ module _ (p : CoreProgram) (table : List ℕ) (is : IsWellFormed p) (strat : Str
       (Each-both (LeafFits p table) (λ l. is_due p table k u l ≡ false) (λ l. leaf_level table high l ≤ k → IsTrue (runs p u l) → IsTrue (has_told p u l)) (λ l f e. not_due k u l f e) (leaves_now p z) (fit high (all_below p table)) calm))
 
   -- the input is on the way
-  pub way-start : (i v : Valuation) → IsOutput p z i v → IsOnWay p table i v 0 i
+  pub way-start : (i v : StoreMap) → IsOutput p z i v → IsOnWay p table i v 0 i
   way-start i v out = start-on_way p table high (all_below p table) is strat rs own (length z) i v (of_started i v out)
 
   -- and where all strata stand, it is the output
-  pub way-end : (s : ℕ) → AreBelow p table s → (w i v : Valuation) → IsOutput p z i v → IsOnWay p table i v s w → w ≡ v
+  pub way-end : (s : ℕ) → AreBelow p table s → (w i v : StoreMap) → IsOutput p z i v → IsOnWay p table i v s w → w ≡ v
   way-end s low w i v out way = end-on_way p table s low is strat rs own (length z) i v (of_started i v out) w way

@@ -5,7 +5,7 @@ use Rattle.std.specs.FinMap.{empty}
 use Rattle.std.proofs.lemmas.Grind.{flat_map-append}
 use Rattle.std.proofs.lemmas.Result.{IfOk-weaker}
 use Rattle.std.proofs.lemmas.List.{append-nil, drop_more, drop_all}
-use Rattle.token_system.specs.Stores.{Valuation}
+use Rattle.token_system.specs.Stores.{StoreMap}
 use Rattle.agent_core.specs.declared.node.Closure.{Closure}
 use Rattle.agent_core.specs.declared.node.Node.{Node}
 use Rattle.agent_core.specs.declared.node.Node.TheVariants as nodes
@@ -29,7 +29,7 @@ leaves-append : (p : CoreProgram) (t : ℕ) (rs qs : List Closure) → leaves p 
 leaves-append p t rs qs = flat_map-append (leaves_at p t) rs qs
 
 -- with no store closed, the leaves are those of the node that is started now
-since-now : (p : CoreProgram) (t n : ℕ) (b : List ℕ) (z : List Valuation) → length z ≡ 0 → leaves_of t (agent_at p.nodes n) n b [] ≡ leaves_since p t n b z
+since-now : (p : CoreProgram) (t n : ℕ) (b : List ℕ) (z : List StoreMap) → length z ≡ 0 → leaves_of t (agent_at p.nodes n) n b [] ≡ leaves_since p t n b z
 since-now p t n b [] e = sym (append-nil (leaves_of t (agent_at p.nodes n) n b []))
 since-now p t n b (w ∷ z) e = absurd (omega arith)
 
@@ -38,14 +38,14 @@ pub none_left : {X : Type 0} (r : Option X) (n : ℕ) (Q : X → Type 0) → Mat
 none_left None n Q h other = h
 none_left (Some x) n Q h other = absurd (other x refl)
 
-pub just_started : {E : Type 0} (r : Result Bool E) (p : CoreProgram) (table : List ℕ) (k t n : ℕ) (b : List ℕ) (z : List Valuation) (u w : Valuation) → length z ≡ 0
+pub just_started : {E : Type 0} (r : Result Bool E) (p : CoreProgram) (table : List ℕ) (k t n : ℕ) (b : List ℕ) (z : List StoreMap) (u w : StoreMap) → length z ≡ 0
     → IfOk r (λ x. TellsBelow p table k t n b u x w) → IfOk r (λ x. TellsOne p table k (leaves_since p t n b z) u x w)
 just_started r p table k t n b z u w e h =
     IfOk-weaker r (λ x. TellsBelow p table k t n b u x w) (λ x. TellsOne p table k (leaves_since p t n b z) u x w)
     (λ x more. subst (λ (ls : List Leaf). TellsOne p table k ls u x w) (since-now p t n b z e) (more [] refl)) h
 
 -- after the closed stores w ∷ z
-module _ (p : CoreProgram) (is : IsWellFormed p) (n : ℕ) (b : List ℕ) (closure : IsClosure p n b) (t : ℕ) (closed : List Valuation) (w : Valuation) (z : List Valuation) (split : closed ≡ w ∷ z) where
+module _ (p : CoreProgram) (is : IsWellFormed p) (n : ℕ) (b : List ℕ) (closure : IsClosure p n b) (t : ℕ) (closed : List StoreMap) (w : StoreMap) (z : List StoreMap) (split : closed ≡ w ∷ z) where
   abbrev start : ℕ
   start = t - length (w ∷ z)
 
@@ -56,12 +56,12 @@ module _ (p : CoreProgram) (is : IsWellFormed p) (n : ℕ) (b : List ℕ) (closu
   since-node : (node : Node) → slice_get p.nodes n ≡ Some node → leaves p (of_agent (agent_of (agent_at p.nodes) node) n b) t ≡ leaves_since p t n b closed
   since-node node found =
       ap (λ (a : Agent). leaves p (of_agent a n b) t) (sym (facts p is n b closure node found).tree)
-      ∙ ap (λ (y : List Valuation). leaves p (started p y (agent_at p.nodes n) n b (t - length y)) t) (sym split)
+      ∙ ap (λ (y : List StoreMap). leaves p (started p y (agent_at p.nodes n) n b (t - length y)) t) (sym split)
 
   -- what a body has after the same stores
   body : (m : ℕ) (births : List ℕ) (place : ℕ) → m ≡ place → leaves_since p t m births closed ≡ leaves p (of_agent (agent_at p.nodes m) place births) t
   body m births place e =
-      ap (λ (y : List Valuation). leaves p (started p y (agent_at p.nodes m) m births (t - length y)) t) split
+      ap (λ (y : List StoreMap). leaves p (started p y (agent_at p.nodes m) m births (t - length y)) t) split
       ∙ ap (λ (i : ℕ). leaves p (of_agent (agent_at p.nodes m) i births) t) e
 
   pub silent-since : (d : Node) → slice_get p.nodes n ≡ Some d → (d ≡ nodes.Skip) ⊎ ((c : Constraint) × (d ≡ nodes.Tell c)) → [] ≡ leaves_since p t n b closed
@@ -97,13 +97,13 @@ module _ (p : CoreProgram) (is : IsWellFormed p) (n : ℕ) (b : List ℕ) (closu
 
   pub new-since : (cell m : ℕ) → slice_get p.nodes n ≡ Some (nodes.New cell m) → (births : List ℕ) → births ≡ b ++ (t - length closed) ∷ [] → leaves_since p t m births closed ≡ leaves_since p t n b closed
   new-since cell m found births e =
-      ap (λ (x : List ℕ). leaves_since p t m x closed) (e ∙ ap (λ (y : List Valuation). b ++ (t - length y) ∷ []) split)
+      ap (λ (x : List ℕ). leaves_since p t m x closed) (e ∙ ap (λ (y : List StoreMap). b ++ (t - length y) ∷ []) split)
       ∙ body m (b ++ start ∷ []) (suc n) (facts p is n b closure (nodes.New cell m) found).follow
       ∙ since-node (nodes.New cell m) found
 
   pub next-since : (m : ℕ) → slice_get p.nodes n ≡ Some (nodes.Next m) → length closed ≤ t → leaves_since p t m b z ≡ leaves_since p t n b closed
   next-since m found few =
-      let long : suc (length z) ≤ t = subst (λ (y : List Valuation). length y ≤ t) split few in
+      let long : suc (length z) ≤ t = subst (λ (y : List StoreMap). length y ≤ t) split few in
       let later : t - length z ≡ start + 1 = omega arith in
       ap (λ (s : ℕ). leaves p (started p z (agent_at p.nodes m) m b s) t) later
       ∙ ap (λ (i : ℕ). leaves p (started p z (agent_at p.nodes m) i b (start + 1)) t) (facts p is n b closure (nodes.Next m) found).follow
@@ -111,7 +111,7 @@ module _ (p : CoreProgram) (is : IsWellFormed p) (n : ℕ) (b : List ℕ) (closu
 
   pub hence-since : (m : ℕ) → slice_get p.nodes n ≡ Some (nodes.Hence m) → length closed ≤ t → leaves_of_hence p t m b z ≡ leaves_since p t n b closed
   hence-since m found few =
-      let long : suc (length z) ≤ t = subst (λ (y : List Valuation). length y ≤ t) split few in
+      let long : suc (length z) ≤ t = subst (λ (y : List StoreMap). length y ≤ t) split few in
       let later : t ≡ start + 1 + length z = omega arith in
       ap (λ (s : ℕ). leaves p (flat_map (λ y. started p y (agent_at p.nodes m) m b (s - length y)) (suffixes z)) t) later
       ∙ ap (λ (i : ℕ). leaves p (flat_map (λ y. started p y (agent_at p.nodes m) i b (start + 1 + length z - length y)) (suffixes z)) t) (facts p is n b closure (nodes.Hence m) found).follow
@@ -120,8 +120,8 @@ module _ (p : CoreProgram) (is : IsWellFormed p) (n : ℕ) (b : List ℕ) (closu
 -- A LOOP OVER SUFFIXES
 
 -- the node is started at the instant of each suffix of z
-module _ (p : CoreProgram) (table : List ℕ) (k t n : ℕ) (b : List ℕ) (z : List Valuation) (u : Valuation) where
-  abbrev One : List Leaf → Bool → Valuation → Type 0
+module _ (p : CoreProgram) (table : List ℕ) (k t n : ℕ) (b : List ℕ) (z : List StoreMap) (u : StoreMap) where
+  abbrev One : List Leaf → Bool → StoreMap → Type 0
   One ls told w = TellsOne p table k ls u told w
 
   -- the leaves of the suffixes from the j-th on
@@ -129,9 +129,9 @@ module _ (p : CoreProgram) (table : List ℕ) (k t n : ℕ) (b : List ℕ) (z : 
   rest j = leaves_of_hence p t n b (drop j z)
 
   -- none of the suffixes before the j-th has a leaf that is to tell, and nothing is told
-  pub record AreLeft (j : ℕ) (v : Valuation) : Type 0 where
+  pub record AreLeft (j : ℕ) (v : StoreMap) : Type 0 where
     pub same : v ≡ u
-    pub decide : (told : Bool) (w : Valuation) → One (rest j) told w → One (leaves_of_hence p t n b z) told w
+    pub decide : (told : Bool) (w : StoreMap) → One (rest j) told w → One (leaves_of_hence p t n b z) told w
 
   pub left-start : AreLeft 0 u
   left-start = record { same = refl; decide = λ told w h. h }
@@ -139,37 +139,37 @@ module _ (p : CoreProgram) (table : List ℕ) (k t n : ℕ) (b : List ℕ) (z : 
   rest-more : (j : ℕ) → j < length z → leaves_since p t n b (drop j z) ++ rest (j + 1) ≡ rest j
   rest-more j lt =
       let more = drop_more z j empty lt in
-      ap (λ (y : List Valuation). leaves_since p t n b y ++ rest (j + 1)) more
+      ap (λ (y : List StoreMap). leaves_since p t n b y ++ rest (j + 1)) more
       ∙ sym (leaves-append p t (started p (get_or z j empty ∷ drop (j + 1) z) (agent_at p.nodes n) n b (t - length (get_or z j empty ∷ drop (j + 1) z)))
       (flat_map (λ y. started p y (agent_at p.nodes n) n b (t - length y)) (suffixes (drop (j + 1) z))))
-      ∙ ap (λ (y : List Valuation). leaves_of_hence p t n b y) (sym more)
+      ∙ ap (λ (y : List StoreMap). leaves_of_hence p t n b y) (sym more)
 
-  module _ (j : ℕ) (v : Valuation) (left : AreLeft j v) where
+  module _ (j : ℕ) (v : StoreMap) (left : AreLeft j v) where
     -- the answer for the j-th suffix, as it was asked
-    at_u : (told : Bool) (w : Valuation) (ls : List Leaf) → TellsOne p table k ls v told w → One ls told w
-    at_u told w ls h = subst (λ (x : Valuation). TellsOne p table k ls x told w) left.same h
+    at_u : (told : Bool) (w : StoreMap) (ls : List Leaf) → TellsOne p table k ls v told w → One ls told w
+    at_u told w ls h = subst (λ (x : StoreMap). TellsOne p table k ls x told w) left.same h
 
-    pub one-tells : (told : Bool) → told ≡ true → (w : Valuation) → j < length z → (y : List Valuation) → y ≡ drop j z → TellsOne p table k (leaves_since p t n b y) v told w → One (leaves_of_hence p t n b z) true w
+    pub one-tells : (told : Bool) → told ≡ true → (w : StoreMap) → j < length z → (y : List StoreMap) → y ≡ drop j z → TellsOne p table k (leaves_since p t n b y) v told w → One (leaves_of_hence p t n b z) true w
     one-tells told e w lt y same h =
         left.decide true w (subst (λ (ls : List Leaf). One ls true w) (rest-more j lt)
         (answer-left p table k (leaves_since p t n b (drop j z)) (rest (j + 1)) u w told e
-        (subst (λ (x : List Valuation). One (leaves_since p t n b x) told w) same (at_u told w (leaves_since p t n b y) h))))
+        (subst (λ (x : List StoreMap). One (leaves_since p t n b x) told w) same (at_u told w (leaves_since p t n b y) h))))
 
-    pub none-tells : (told : Bool) → told ≡ false → (w : Valuation) → j < length z → (y : List Valuation) → y ≡ drop j z → TellsOne p table k (leaves_since p t n b y) v told w → AreLeft (j + 1) w
+    pub none-tells : (told : Bool) → told ≡ false → (w : StoreMap) → j < length z → (y : List StoreMap) → y ≡ drop j z → TellsOne p table k (leaves_since p t n b y) v told w → AreLeft (j + 1) w
     none-tells told e w lt y same h =
         let none : One (leaves_since p t n b (drop j z)) false w =
-        subst (λ (x : Bool). One (leaves_since p t n b (drop j z)) x w) e (subst (λ (x : List Valuation). One (leaves_since p t n b x) told w) same (at_u told w (leaves_since p t n b y) h)) in
+        subst (λ (x : Bool). One (leaves_since p t n b (drop j z)) x w) e (subst (λ (x : List StoreMap). One (leaves_since p t n b x) told w) same (at_u told w (leaves_since p t n b y) h)) in
         record {
           same = none.1;
           decide = λ r x more. left.decide r x (subst (λ (ls : List Leaf). One ls r x) (rest-more j lt)
-              (one-right p table k (leaves_since p t n b (drop j z)) (rest (j + 1)) u w x r none (subst (λ (y : Valuation). TellsOne p table k (rest (j + 1)) y r x) (sym none.1) more)));
+              (one-right p table k (leaves_since p t n b (drop j z)) (rest (j + 1)) u w x r none (subst (λ (y : StoreMap). TellsOne p table k (rest (j + 1)) y r x) (sym none.1) more)));
         }
 
     rest-last : length z ≤ j → leaves_of t (agent_at p.nodes n) n b [] ≡ rest j
     rest-last le =
-        sym (append-nil (leaves_of t (agent_at p.nodes n) n b [])) ∙ ap (λ (y : List Valuation). leaves_of_hence p t n b y) (sym (drop_all j z le))
+        sym (append-nil (leaves_of t (agent_at p.nodes n) n b [])) ∙ ap (λ (y : List StoreMap). leaves_of_hence p t n b y) (sym (drop_all j z le))
 
-    pub last-tells : {E : Type 0} (r : Result Bool E) (w : Valuation) → length z ≤ j → IfOk r (λ x. TellsBelow p table k t n b v x w) → IfOk r (λ x. One (leaves_of_hence p t n b z) x w)
+    pub last-tells : {E : Type 0} (r : Result Bool E) (w : StoreMap) → length z ≤ j → IfOk r (λ x. TellsBelow p table k t n b v x w) → IfOk r (λ x. One (leaves_of_hence p t n b z) x w)
     last-tells r w le h =
         IfOk-weaker r (λ x. TellsBelow p table k t n b v x w) (λ x. One (leaves_of_hence p t n b z) x w)
         (λ x more. left.decide x w (subst (λ (ls : List Leaf). One ls x w) (rest-last le) (at_u x w (leaves_of t (agent_at p.nodes n) n b []) (more [] refl)))) h

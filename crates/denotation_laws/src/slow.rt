@@ -1,6 +1,6 @@
 //! The outputs of a run, by walks over the whole history at each instant.
 ghost use Rattle.std.specs.Prelude.{◌≡◌, ◌+◌, ◌<◌, ◌≤◌, ◌^◌, ℕ, All, IfOk, OnOk, length};
-ghost use Rattle.token_system.specs.Stores.{Valuation};
+ghost use Rattle.token_system.specs.Stores.{StoreMap};
 ghost use Rattle.agent_core.specs.WellFormed.{IsWellFormed};
 ghost use Rattle.agent_core.specs.Outputs.{IsOutput, IsRun};
 ghost use Rattle.agent_core.specs.Stores.{IsInput, IsStore};
@@ -29,7 +29,7 @@ fn complete_stratum(
     requires few { length closed.now < 2 ^ 32 }
     requires store { IsStore program.now store.old }
     ensures store { OnOk result (IsStore program.now store.new) }
-    ensures completed { OnOk result ((input output : Valuation) → IsOutput program.now closed.now input output
+    ensures completed { OnOk result ((input output : StoreMap) → IsOutput program.now closed.now input output
         → IsOnWay program.now levels.now input output stratum store.old
         → IsOnWay program.now levels.now input output (stratum + 1) store.new) }
 {

@@ -6,7 +6,7 @@ use Rattle.std.proofs.lemmas.List.{append-nil, take-append-le, length-map}
 use Rattle.token_system.specs.declared.cell.Token.{Token}
 use Rattle.token_system.specs.declared.name.CellName.{CellName}
 use Rattle.token_system.specs.declared.name.CellName.TheVariants.{Declared, Local}
-use Rattle.token_system.specs.Stores.{Valuation}
+use Rattle.token_system.specs.Stores.{StoreMap}
 use Rattle.agent_core.specs.Agents.{Constraint}
 use Rattle.agent_core.specs.Agents as agent
 use Rattle.agent_core.specs.Programs.{CoreProgram}
@@ -122,7 +122,7 @@ module _ (s : SurfaceProgram) (tree : Tree) (p : CoreProgram) (made : IsProgramO
   HasThere l = (scope : List Placed) × AreOver p l.node 1 (cells_of scope) × G (way scope l.births l.path)
 
   pub inside_has : EachTell (cell_marks s (sketch_of (length s.cells) 0 tree)) (Has (length s.cells) (cell_marks s (sketch_of (length s.cells) 0 tree)) (IsBelow m x) G) (way [] [] []) (sketch_of (length s.cells) 0 tree)
-      → (z : List Valuation) (l : Leaf) → IsTellInside s (sketch_of (length s.cells) 0 tree) p z m a l → HasThere l
+      → (z : List StoreMap) (l : Leaf) → IsTellInside s (sketch_of (length s.cells) 0 tree) p z m a l → HasThere l
   inside_has each z l inside =
       let cells = length s.cells in
       let sketch = sketch_of cells 0 tree in

@@ -1,7 +1,7 @@
 -- Where a walk down a sketch stands that follows a leaf: at a part of the sketch that leads to the leaf.
 use Rattle.std.proofs.Common.{◌≡◌, ◌⊎◌, inl, inr, ℕ, suc, ◌+◌, List, [], ◌∷◌, ◌++◌, length, length-append, Some, None, refl, sym, ap, ◌∙◌, subst, arith}
 use Rattle.std.specs.Prelude.{Option, slice_get}
-use Rattle.token_system.specs.Stores.{Valuation}
+use Rattle.token_system.specs.Stores.{StoreMap}
 use Rattle.agent_core.specs.Agents.{Constraint, agent_at}
 use Rattle.agent_core.specs.Agents as agent
 use Rattle.agent_core.specs.Programs.{CoreProgram}
@@ -26,8 +26,8 @@ pub record Trail : Type 0 where
   pub surface : SurfaceProgram
   pub sketch : Sketch
   pub program : CoreProgram
-  pub closed : List Valuation
-  pub output : Valuation
+  pub closed : List StoreMap
+  pub output : StoreMap
   pub leaf : Leaf
   pub told : Constraint
   pub tells : leaf.agent ≡ agent.Tell told
@@ -40,7 +40,7 @@ pub record Spot : Type 0 where
   pub cell : ℕ
   pub births : List ℕ
   pub start : ℕ
-  pub stores : List Valuation
+  pub stores : List StoreMap
 
 -- the spots of the parts: the first one, the right one of a par, the one under a new, and one that is started later
 abbrev pub under : Spot → Spot
@@ -52,7 +52,7 @@ beside q a = record q { node = suc q.node + core.size (agent_of q.scope q.cell a
 abbrev pub inside : Spot → ℕ → Spot
 inside q mark = record q { scope = placed mark q.cell ∷ q.scope; node = suc q.node; cell = suc q.cell; births = q.births ++ q.start ∷ [] }
 
-abbrev pub later : Spot → List Valuation → ℕ → Spot
+abbrev pub later : Spot → List StoreMap → ℕ → Spot
 later q since t = record q { node = suc q.node; start = t; stores = since }
 
 -- what holds of no tell
@@ -99,14 +99,14 @@ module _ (x : Trail) where
     | inr right ↦ inr (record { part = right_part x.program (origins x.sketch) (marks_of x) q.scope q.node q.cell o a b h.part; leads = right; even = h.even })
   ]
 
-  pub at_hence : (q : Spot) (o : Option ℕ) (a : Sketch) → At q (Hence o a) → (since : List Valuation) × (t : ℕ) × At (later q since t) a
+  pub at_hence : (q : Spot) (o : Option ℕ) (a : Sketch) → At q (Hence o a) → (since : List StoreMap) × (t : ℕ) × At (later q since t) a
   at_hence q o a h =
       let part = hence_part x.program (origins x.sketch) (marks_of x) q.scope q.node q.cell o a h.part in
       let tree = listed_tree x.program.nodes (suc q.node) (agent_of q.scope q.cell a) part.place.listed in
       let (since, t, leads) = leads_hence x.program x.closed x.output x.leaf x.told x.tells q.stores (agent_of q.scope q.cell a) q.node q.births q.start tree h.leads in
       (since, t, record { part = part; leads = leads; even = h.even })
 
-  pub at_next : (q : Spot) (o : Option ℕ) (a : Sketch) → At q (Next o a) → (since : List Valuation) × (t : ℕ) × At (later q since t) a
+  pub at_next : (q : Spot) (o : Option ℕ) (a : Sketch) → At q (Next o a) → (since : List StoreMap) × (t : ℕ) × At (later q since t) a
   at_next q o a h =
       let part = next_part x.program (origins x.sketch) (marks_of x) q.scope q.node q.cell o a h.part in
       let tree = listed_tree x.program.nodes (suc q.node) (agent_of q.scope q.cell a) part.place.listed in

@@ -8,7 +8,7 @@ use Rattle.std.proofs.lemmas.List.{length-map, append-nil}
 use Rattle.token_system.specs.declared.cell.Token.{Token}
 use Rattle.token_system.specs.declared.name.CellName.{CellName}
 use Rattle.token_system.specs.declared.name.CellName.TheVariants.{Declared, Local}
-use Rattle.token_system.specs.Stores.{Valuation, store_entails}
+use Rattle.token_system.specs.Stores.{StoreMap, store_entails}
 use Rattle.token_system.proofs.Alike.{true_false}
 use Rattle.agent_core.specs.declared.node.CellDecl.{CellDecl}
 use Rattle.agent_core.specs.declared.node.Node.TheVariants as nodes
@@ -47,7 +47,7 @@ use Rattle.expansion_laws.proofs.FreeForms.{Aim, Found}
 use Rattle.expansion_laws.proofs.WatchedLeaves.{Waits, waits}
 
 -- A constraint is read in the same way under births that name its cells alike.
-module _ (p : CoreProgram) (b b' : List ℕ) (w : Valuation) where
+module _ (p : CoreProgram) (b b' : List ℕ) (w : StoreMap) where
   holds_alike : (x : ℕ) (t : Token) → name_of p b x ≡ name_of p b' x → holds p b w (x, t) ≡ holds p b' w (x, t)
   holds_alike x t e = go (slice_get p.cells x)
     where
@@ -60,7 +60,7 @@ module _ (p : CoreProgram) (b b' : List ℕ) (w : Valuation) where
   entails_alike (pair ∷ ask) h = ap (λ (x : Bool). x && entails p b w ask) (holds_alike pair.0 pair.1 h.0) ∙ ap (λ (x : Bool). holds p b' w pair && x) (entails_alike ask h.1)
 
 -- no leaf is run while what it waits for is there
-pub not_run : (p : CoreProgram) (v : Valuation) (l : Leaf) (b : List ℕ) (ask : Constraint) → Contains l.path (Negative b ask) → (IsTrue (runs p v l) → IsTrue (entails p b v ask)) → IsFalse (runs p v l)
+pub not_run : (p : CoreProgram) (v : StoreMap) (l : Leaf) (b : List ℕ) (ask : Constraint) → Contains l.path (Negative b ask) → (IsTrue (runs p v l) → IsTrue (entails p b v ask)) → IsFalse (runs p v l)
 not_run p v l b ask k h = go (runs p v l) refl
   where
     go : (r : Bool) → runs p v l ≡ r → r ≡ false
@@ -197,7 +197,7 @@ module _ (x : Trail) (y : Aim x) (f : Found x y) where
     own_named = ap (λ (b : List ℕ). name_of x.program b hidden) (sym (append-nil births)) ∙ named []
 
     -- the constraint is read under the births of the form as under those of its hidden signal
-    read_alike : (w : Valuation) → entails x.program f.spot.births w ask ≡ entails x.program births w ask
+    read_alike : (w : StoreMap) → entails x.program f.spot.births w ask ≡ entails x.program births w ask
     read_alike w =
         let same_ask : ask ≡ ask_of f.spot.scope y.stop = ask_under mark hidden f.spot.scope y.stop (cells_below (bare x.surface) mark f.locals (omega arith) y.stop f.scoped.tokens) in
         subst (λ (k : Constraint). entails x.program f.spot.births w k ≡ entails x.program births w k) (sym same_ask)
@@ -214,7 +214,7 @@ module _ (x : Trail) (y : Aim x) (f : Found x y) where
     -- STOPPED
 
     -- where a store since the start entails the constraint, the leaf is not run
-    pub stopped : (j : ℕ) (w : Valuation) → slice_get (f.spot.stores ++ x.output ∷ []) j ≡ Some w → IsTrue (entails x.program f.spot.births w ask) → IsFalse (runs x.program x.output x.leaf)
+    pub stopped : (j : ℕ) (w : StoreMap) → slice_get (f.spot.stores ++ x.output ∷ []) j ≡ Some w → IsTrue (entails x.program f.spot.births w ask) → IsFalse (runs x.program x.output x.leaf)
     stopped j w found h =
         not_run x.program x.output x.leaf x.leaf.births (on hidden) waiting.denied (λ r.
         sym (entails_alike x.program births x.leaf.births x.output (on hidden) (own_named ∙ sym leaf_named, tt))

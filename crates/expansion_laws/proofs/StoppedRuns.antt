@@ -3,7 +3,7 @@ use Rattle.std.proofs.Common.{◌≡◌, ◌⊎◌, inl, inr, ℕ, zero, suc, �
 use Rattle.std.specs.Prelude.{slice_get, IsTrue, IsFalse}
 use Rattle.std.proofs.lemmas.List.{length-take-le}
 use Rattle.std.proofs.lemmas.Option.{slice_get_within}
-use Rattle.token_system.specs.Stores.{Valuation}
+use Rattle.token_system.specs.Stores.{StoreMap}
 use Rattle.agent_core.specs.Agents.{Agent, agent_at}
 use Rattle.agent_core.specs.Programs.{CoreProgram}
 use Rattle.agent_core.specs.WellFormed.{IsAmong, IsWellFormed, count_up}
@@ -48,7 +48,7 @@ module _ (x : Trail) (y : Aim x) (f : Found x y) (program : IsWellFormed x.progr
     copies = copies x y f;
   }
 
-  module _ (outs : List Valuation) (t : ℕ) (last : slice_get outs t ≡ Some x.output) (closed : take t outs ≡ x.closed) where
+  module _ (outs : List StoreMap) (t : ℕ) (last : slice_get outs t ≡ Some x.output) (closed : take t outs ≡ x.closed) where
     found_start : f.spot.start ≤ t
     found_start =
         let lt = slice_get_within outs t x.output last in
@@ -57,7 +57,7 @@ module _ (x : Trail) (y : Aim x) (f : Found x y) (program : IsWellFormed x.progr
         let all : length (take t outs) ≡ t = length-take-le t outs (omega arith) in
         omega arith
 
-    found_stopped : (n : ℕ) (w : Valuation) → f.spot.start ≤ n → n ≤ t → slice_get outs n ≡ Some w → IsTrue (entails x.program f.spot.births w (ask x y f)) → IsFalse (runs x.program x.output x.leaf)
+    found_stopped : (n : ℕ) (w : StoreMap) → f.spot.start ≤ n → n ≤ t → slice_get outs n ≡ Some w → IsTrue (entails x.program f.spot.births w (ask x y f)) → IsFalse (runs x.program x.output x.leaf)
     found_stopped n w from to found h =
         stopped x y f program made.declared within (n - f.spot.start) w
         (output_since outs f.at.leads.front f.spot.stores t n f.spot.start x.output w last (closed ∙ f.at.leads.whole) f.at.leads.long from to found) h

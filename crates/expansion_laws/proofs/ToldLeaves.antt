@@ -2,7 +2,7 @@
 use Rattle.std.proofs.Common.{◌≡◌, ℕ, suc, ◌+◌, ◌-◌, List, [], ◌∷◌, ◌++◌, length, Some, refl, sym, subst}
 use Rattle.std.specs.Prelude.{Option, slice_get, Contains}
 use Rattle.std.proofs.lemmas.List.Elements.{All-contains}
-use Rattle.token_system.specs.Stores.{Valuation}
+use Rattle.token_system.specs.Stores.{StoreMap}
 use Rattle.agent_core.specs.declared.node.Closure.{Closure}
 use Rattle.agent_core.specs.Agents.{Agent, Constraint, agent_at}
 use Rattle.agent_core.specs.Agents as agent
@@ -57,7 +57,7 @@ module _ (p : CoreProgram) (os : List (Option ℕ)) (ms : List ℕ) (R : Option 
   abbrev pub TellsTold : Closure → Type 0
   TellsTold r = (t : ℕ) → Each IsTold (leaves_of t (agent_at p.nodes r.node) r.node r.births [])
 
-  pub starts_told : (d : Sketch) (z : List Valuation) (scope : List Placed) (k n : ℕ) (b : List ℕ) (path : List Guard) (s : ℕ) → IsNumbered p os ms scope k n d → length b ≡ length scope
+  pub starts_told : (d : Sketch) (z : List StoreMap) (scope : List Placed) (k n : ℕ) (b : List ℕ) (path : List Guard) (s : ℕ) → IsNumbered p os ms scope k n d → length b ≡ length scope
       → (z ≡ [] → path ≡ []) → EachTell ms R (way scope b path) d → Each TellsTold (started p z (agent_of scope n d) k b s)
   starts_told d [] scope k n b path s at even free h =
       let start = subst (λ (q : List Guard). EachTell ms R (way scope b q) d) (free refl) h in
@@ -93,7 +93,7 @@ module _ (p : CoreProgram) (os : List (Option ℕ)) (ms : List ℕ) (R : Option 
 -- what is shown of the tells of a sketch holds of the tell leaves of its program, after whatever closed stores
 pub sketch_told : (p : CoreProgram) (ms : List ℕ) (n : ℕ) (d : Sketch) (R : Option ℕ → Way → Constraint → Type 0)
     → p.nodes ≡ core.listing 0 (agent_of [] n d) → StandsAt ℕ ms n (marks d) → EachTell ms R (way [] [] []) d
-    → (z : List Valuation) (t : ℕ) (l : Leaf) → Contains (leaves p (roots p z) t) l → IsTold p (origins d) ms R l
+    → (z : List StoreMap) (t : ℕ) (l : Leaf) → Contains (leaves p (roots p z) t) l → IsTold p (origins d) ms R l
 sketch_told p ms n d R listed marked h z t l k =
     let own = starts_told p (origins d) ms R d z [] 0 n [] [] 0 (root_part p ms n d listed marked) refl (λ e. refl) h in
     let start = subst (λ (a : Agent). Each (TellsTold p (origins d) ms R) (started p z a 0 [] 0)) (sym (root_tree p.nodes (agent_of [] n d, listed))) own in

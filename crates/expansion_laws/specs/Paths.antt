@@ -2,7 +2,7 @@
 -- runs at the instants of its clock alone. This project's own.
 use Rattle.std.specs.Prelude.{◌≡◌, ◌⊎◌, ℕ, suc, ◌+◌, ◌<◌, ◌≤◌, List, ◌∷◌, [], ◌++◌, length, take, Some, None, All, Contains, slice_get, IsTrue, IsFalse}
 use Rattle.token_system.specs.declared.cell.Token.{Token}
-use Rattle.token_system.specs.Stores.{Valuation}
+use Rattle.token_system.specs.Stores.{StoreMap}
 use Rattle.agent_core.specs.Agents.{Constraint}
 use Rattle.agent_core.specs.Agents as agent
 use Rattle.agent_core.specs.Programs.{CoreProgram}
@@ -40,7 +40,7 @@ pub record IsAddedFor (s : SurfaceProgram) (d : Sketch) (p : CoreProgram) (m : �
 -- Each tell copies one of the tree, or an expansion added it for a form of the tree.
 abbrev pub TellsStem : SurfaceProgram → Tree → Sketch → CoreProgram → Type 0
 TellsStem s tree d p =
-    (z : List Valuation) (l : Leaf) (ask : Constraint) → Contains (leaves p (roots p z) (length z)) l → l.agent ≡ agent.Tell ask →
+    (z : List StoreMap) (l : Leaf) (ask : Constraint) → Contains (leaves p (roots p z) (length z)) l → l.agent ≡ agent.Tell ask →
     ((m : ℕ) × (c : Constraint) × Contains (parts 0 tree) (part m (Tell c)) × IsCopyOf s d p m c l ask)
     ⊎ ((m : ℕ) × (t : Tree) × Contains (parts 0 tree) (part m t) × IsAddedFor s d p m l ask)
 
@@ -51,7 +51,7 @@ StemsFrom s d l m =
     ⊎ ((slice_get (origins d) l.node ≡ Some None) × ((k : ℕ) × IsHidden s d m k × (l.agent ≡ agent.Tell (on k))))
 
 -- the leaf is one of the instant after these closed stores, it is a tell, and it stems from a form inside this one
-pub record IsTellInside (s : SurfaceProgram) (d : Sketch) (p : CoreProgram) (z : List Valuation) (m : ℕ) (a : Tree) (l : Leaf) : Type 0 where
+pub record IsTellInside (s : SurfaceProgram) (d : Sketch) (p : CoreProgram) (z : List StoreMap) (m : ℕ) (a : Tree) (l : Leaf) : Type 0 where
   pub leaf : Contains (leaves p (roots p z) (length z)) l
   pub ask : Constraint
   pub tells : l.agent ≡ agent.Tell ask
@@ -64,7 +64,7 @@ pub record IsTellInside (s : SurfaceProgram) (d : Sketch) (p : CoreProgram) (z :
 -- copy of the watching that stands around it.
 abbrev pub TellsAreGuarded : SurfaceProgram → Tree → Sketch → CoreProgram → Type 0
 TellsAreGuarded s tree d p =
-    (m : ℕ) (a : Tree) (c : Constraint) (z : List Valuation) (l : Leaf) →
+    (m : ℕ) (a : Tree) (c : Constraint) (z : List StoreMap) (l : Leaf) →
     Contains (parts 0 tree) (part m (Watch a c)) → IsTellInside s d p z m a l →
     (k : ℕ) × IsHidden s d m k × IsAround p k l.node × Contains l.path (Negative l.births (on k))
 
@@ -81,7 +81,7 @@ pub record IsOnClock (s : SurfaceProgram) (d : Sketch) (p : CoreProgram) (l : Le
 -- Each tell that stems from a form inside a time is on the clock.
 abbrev pub TellsAreClocked : SurfaceProgram → Tree → Sketch → CoreProgram → Type 0
 TellsAreClocked s tree d p =
-    (m : ℕ) (a : Tree) (c : Constraint) (z : List Valuation) (l : Leaf) →
+    (m : ℕ) (a : Tree) (c : Constraint) (z : List StoreMap) (l : Leaf) →
     Contains (parts 0 tree) (part m (Time a c)) → IsTellInside s d p z m a l → IsOnClock s d p l c
 
 -- the leaf belongs to a watching on this constraint that was started at this instant, under these births; the third node
@@ -102,8 +102,8 @@ pub record IsWatched (s : SurfaceProgram) (d : Sketch) (p : CoreProgram) (m : �
 -- started at some instant; once an output since then entails its constraint, the tell is not run.
 abbrev pub StopsForGood : SurfaceProgram → Tree → Sketch → CoreProgram → Type 0
 StopsForGood s tree d p =
-    (m : ℕ) (a : Tree) (c : Constraint) (ins outs : List Valuation) (t : ℕ) (v : Valuation) (l : Leaf) →
+    (m : ℕ) (a : Tree) (c : Constraint) (ins outs : List StoreMap) (t : ℕ) (v : StoreMap) (l : Leaf) →
     Contains (free_parts 0 tree) (part m (Watch a c)) → IsRun p ins outs → slice_get outs t ≡ Some v →
     IsTellInside s d p (take t outs) m a l →
     (start : ℕ) × (births : List ℕ) × (ask : Constraint) × IsWatched s d p m c l start births ask × (start ≤ t)
-    × ((n : ℕ) (w : Valuation) → start ≤ n → n ≤ t → slice_get outs n ≡ Some w → IsTrue (entails p births w ask) → IsFalse (runs p v l))
+    × ((n : ℕ) (w : StoreMap) → start ≤ n → n ≤ t → slice_get outs n ≡ Some w → IsTrue (entails p births w ask) → IsFalse (runs p v l))

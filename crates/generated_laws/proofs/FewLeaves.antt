@@ -8,7 +8,7 @@ use Rattle.std.specs.declared.cmp.Ordering.{Ordering}
 use Rattle.std.specs.declared.cmp.Ordering.TheVariants.{Less, Equal, Greater}
 use Rattle.std.proofs.Math.Bool.{or-true}
 use Rattle.std.proofs.lemmas.Cmp.{eq_by_cmp_equiv}
-use Rattle.token_system.specs.Stores.{Valuation}
+use Rattle.token_system.specs.Stores.{StoreMap}
 use Rattle.token_system.proofs.Alike.{true_false}
 use Rattle.agent_core.specs.declared.node.Closure.{Closure}
 use Rattle.agent_core.specs.declared.node.Node.{Node}
@@ -111,11 +111,11 @@ bodies (Hence a) n b = closure (suc n) b ∷ bodies a (suc n) b
 bodies (Next a) n b = closure (suc n) b ∷ bodies a (suc n) b
 
 -- what the agent may start after these closed stores: itself where there is none, and else some of its bodies
-abbrev may_start : List Valuation → Agent → ℕ → List ℕ → List Closure
+abbrev may_start : List StoreMap → Agent → ℕ → List ℕ → List Closure
 may_start [] a n b = closure n b ∷ []
 may_start (w ∷ z) a n b = bodies a n b
 
-may_start-all : (z : List Valuation) (a : Agent) (n : ℕ) (b : List ℕ) (c : Closure) → In c (may_start z a n b) → In c (closure n b ∷ bodies a n b)
+may_start-all : (z : List StoreMap) (a : Agent) (n : ℕ) (b : List ℕ) (c : Closure) → In c (may_start z a n b) → In c (closure n b ∷ bodies a n b)
 may_start-all [] a n b c (inl e) = inl e
 may_start-all [] a n b c (inr i) = absurd i
 may_start-all (w ∷ z) a n b c i = inr i
@@ -130,7 +130,7 @@ IsDue later s = later ≡ false → s ≡ 0
 
 module _ (p : CoreProgram) where
   -- What an agent starts are bodies of it, with the births that they always have.
-  started-of : (a : Agent) (z : List Valuation) (n : ℕ) (b : List ℕ) (s : ℕ) (later : Bool) → NewsFirst later a → IsDue later s → AreOf (may_start z a n b) (started p z a n b s)
+  started-of : (a : Agent) (z : List StoreMap) (n : ℕ) (b : List ℕ) (s : ℕ) (later : Bool) → NewsFirst later a → IsDue later s → AreOf (may_start z a n b) (started p z a n b s)
   started-of a [] n b s later first due = (inl refl, tt)
   started-of Skip (w ∷ z) n b s later first due = tt
   started-of (Tell c) (w ∷ z) n b s later first due = tt
@@ -151,7 +151,7 @@ module _ (p : CoreProgram) where
       Each-map (λ c. In c (may_start z a (suc n) b)) (λ c. In c (closure (suc n) b ∷ bodies a (suc n) b)) (may_start-all z a (suc n) b) (started p z a (suc n) b (s + 1))
       (started-of a z (suc n) b (s + 1) true first (λ e. absurd (true_false e)))
   started-of (Hence a) (w ∷ z) n b s later first due =
-      let from : List Valuation → ℕ = λ y. s + 1 + length z - length y in
+      let from : List StoreMap → ℕ = λ y. s + 1 + length z - length y in
       Each-flat (λ c. In c (closure (suc n) b ∷ bodies a (suc n) b)) (λ y. started p y a (suc n) b (from y))
       (λ y. Each-map (λ c. In c (may_start y a (suc n) b)) (λ c. In c (closure (suc n) b ∷ bodies a (suc n) b)) (may_start-all y a (suc n) b) (started p y a (suc n) b (from y))
       (started-of a y (suc n) b (from y) true first (λ e. absurd (true_false e)))) (suffixes z)
@@ -234,7 +234,7 @@ module _ (p : CoreProgram) where
         omega arith
 
   -- An instant has at most as many leaves as there are nodes.
-  pub leaves-few : IsListing p.nodes → NewsFirst false (agent_at p.nodes 0) → (z : List Valuation) (t : ℕ) → length (leaves p (roots p z) t) ≤ length p.nodes
+  pub leaves-few : IsListing p.nodes → NewsFirst false (agent_at p.nodes 0) → (z : List StoreMap) (t : ℕ) → length (leaves p (roots p z) t) ≤ length p.nodes
   leaves-few tree first z t =
       let root : Agent = agent_at p.nodes 0 in
       let all : List Closure = closure 0 [] ∷ bodies root 0 [] in
@@ -255,5 +255,5 @@ filter_short f (x ∷ xs) = go (f x) (filter_short f xs)
     go false few = omega arith
 
 -- No more run than there are.
-pub ran-few : (p : CoreProgram) (rs : List Closure) (t : ℕ) (v : Valuation) → ran p rs t v ≤ length (leaves p rs t)
+pub ran-few : (p : CoreProgram) (rs : List Closure) (t : ℕ) (v : StoreMap) → ran p rs t v ≤ length (leaves p rs t)
 ran-few p rs t v = filter_short (runs p v) (leaves p rs t)

@@ -1,6 +1,6 @@
 -- In the core program of a generated text no new stands below a hence or a next, so its instants have few leaves.
 use Rattle.std.proofs.Common.{◌≡◌, ℕ, suc, ◌+◌, ◌≤◌, false, List, [], ◌∷◌, length, refl, sym, ap, ◌∙◌, subst, arith}
-use Rattle.token_system.specs.Stores.{Valuation}
+use Rattle.token_system.specs.Stores.{StoreMap}
 use Rattle.agent_core.specs.Agents.{Agent, agent_at}
 use Rattle.agent_core.specs.Closures.{roots}
 use Rattle.agent_core.specs.Leaves.{leaves, ran}
@@ -30,14 +30,14 @@ parts_news (u ∷ []) m n = part_news u m n
 parts_news (u ∷ v ∷ vs) m n = (part_news u (suc m) n, parts_news (v ∷ vs) (suc m + tree.form_count (part_tree u)) (n + length (marks (part_sketch (suc m) u))))
 
 -- An instant of the core program of the surface has at most as many leaves as the program has nodes.
-pub few : (n : ℕ) (p : CoreProgram) (outs : List Valuation) → IsExpansion (surface n) p → length (leaves p (roots p outs) (length outs)) ≤ length p.nodes
+pub few : (n : ℕ) (p : CoreProgram) (outs : List StoreMap) → IsExpansion (surface n) p → length (leaves p (roots p outs) (length outs)) ≤ length p.nodes
 few n p outs (d, sketched, made) =
     let root : agent_at p.nodes 0 ≡ agent_of [] 40 d = root_tree p.nodes (agent_of [] 40 d, made.nodes) in
     let same : agent_at p.nodes 0 ≡ agent_of [] 40 (parts_sketch 0 (parts n)) = root ∙ ap (agent_of [] 40) (one_sketch n d sketched) in
     leaves-few p (agent_of [] 40 d, made.nodes) (subst (λ (a : Agent). NewsFirst false a) (sym same) (parts_news (parts n) 0 40)) outs (length outs)
 
 -- So at most that many run in it.
-pub few_ran : (n : ℕ) (p : CoreProgram) (outs : List Valuation) (v : Valuation) → IsExpansion (surface n) p → ran p (roots p outs) (length outs) v ≤ length p.nodes
+pub few_ran : (n : ℕ) (p : CoreProgram) (outs : List StoreMap) (v : StoreMap) → IsExpansion (surface n) p → ran p (roots p outs) (length outs) v ≤ length p.nodes
 few_ran n p outs v is =
     let some = ran-few p (roots p outs) (length outs) v in
     let all = few n p outs is in

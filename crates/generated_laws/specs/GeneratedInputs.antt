@@ -1,6 +1,6 @@
 -- What a generated program and its trace are as the bytes of one input, with a mark between them. This project's own.
 use Rattle.std.specs.Prelude.{◌≡◌, ℕ, List, [], ◌∷◌, ◌++◌, codes}
-use Rattle.token_system.specs.Stores.{Valuation}
+use Rattle.token_system.specs.Stores.{StoreMap}
 use Rattle.agent_core.specs.Programs.{CoreProgram}
 use Rattle.tdcc_base.specs.Lines.{lines_of}
 use Rattle.tdcc_base.specs.Texts.{text_of, trace_of}
@@ -18,4 +18,4 @@ pub record IsParted (n : ℕ) : Type 0 where
 
 -- the line gives an input of the program
 abbrev pub GivesSomeInput : CoreProgram → List ℕ → Type 0
-GivesSomeInput p line = (i : Valuation) × GivesInput p line i
+GivesSomeInput p line = (i : StoreMap) × GivesInput p line i

@@ -1,6 +1,6 @@
 // The laws of generated programs, each proved as the contract of a function with no body.
 ghost use Rattle.std.specs.Prelude.{ℕ, ◌≤◌, List, [], ◌∷◌, ◌++◌, length, All};
-ghost use Rattle.token_system.specs.Stores.{Valuation};
+ghost use Rattle.token_system.specs.Stores.{StoreMap};
 ghost use Rattle.agent_core.specs.Closures.{roots};
 ghost use Rattle.agent_core.specs.Leaves.{leaves, ran};
 ghost use Rattle.agent_core.specs.Programs.{CoreProgram};
@@ -23,8 +23,8 @@ pub fn generated_law()
     ensures built { (n : ℕ) (p : CoreProgram) → IsExpansion (surface n) p → IsSmall p (table n) }
     ensures parted { (n : ℕ) → IsParted n }
     ensures lines { (n : ℕ) (p : CoreProgram) → IsExpansion (surface n) p → All (GivesSomeInput p) (trace_lines n) }
-    ensures few { (n : ℕ) (p : CoreProgram) (closed : List Valuation) → IsExpansion (surface n) p
+    ensures few { (n : ℕ) (p : CoreProgram) (closed : List StoreMap) → IsExpansion (surface n) p
         → length (leaves p (roots p closed) (length closed)) ≤ length p.nodes }
-    ensures few_ran { (n : ℕ) (p : CoreProgram) (closed : List Valuation) (v : Valuation) → IsExpansion (surface n) p
+    ensures few_ran { (n : ℕ) (p : CoreProgram) (closed : List StoreMap) (v : StoreMap) → IsExpansion (surface n) p
         → ran p (roots p closed) (length closed) v ≤ length p.nodes }
 {}

@@ -2,7 +2,7 @@
 use Rattle.std.proofs.Common.{◌≡◌, ℕ, ◌+◌, ◌<◌, ◌≤◌, List, [], ◌∷◌, ◌++◌, length, get_or, drop, Bool, true, false, ◌&&◌, Option, Some, None, refl, sym, ap, ◌∙◌, add-one, drop-cons}
 use Rattle.std.specs.Prelude.{slice_get}
 use Rattle.std.proofs.lemmas.List.{drop_all}
-use Rattle.token_system.specs.Stores.{Valuation, value_at, store_entails}
+use Rattle.token_system.specs.Stores.{StoreMap, value_at, store_entails}
 use Rattle.token_system.specs.declared.cell.Value.{Value}
 use Rattle.token_system.specs.Values.{value_entails, OfOneKind, IsValueOf}
 use Rattle.token_system.proofs.Adding.{kinds_agree}
@@ -12,7 +12,7 @@ use Rattle.instant_net.specs.NamedLeaves.{entails}
 use Rattle.instant_net.specs.Nets.{named, named_at, AtomFits}
 
 -- one more token of the ask
-pub entails_next : (cells : List NetCell) (u : Valuation) (a : Atom) (atoms : List Atom) → entails u (named cells (a ∷ atoms)) ≡ (entails u (named cells (a ∷ [])) && entails u (named cells atoms))
+pub entails_next : (cells : List NetCell) (u : StoreMap) (a : Atom) (atoms : List Atom) → entails u (named cells (a ∷ atoms)) ≡ (entails u (named cells (a ∷ [])) && entails u (named cells atoms))
 entails_next cells u a atoms = go (slice_get cells a.cell)
   where
     both : (b c : Bool) → (b && c) ≡ ((b && true) && c)
@@ -24,7 +24,7 @@ entails_next cells u a atoms = go (slice_get cells a.cell)
     go (Some c) = both (store_entails u c.name c.cell a.token) (entails u (named cells atoms))
 
 -- one token alone
-pub entails_one : (cells : List NetCell) (u : Valuation) (a : Atom) (f : AtomFits cells a) → entails u (named cells (a ∷ [])) ≡ value_entails (value_at u f.0.name f.0.cell) a.token
+pub entails_one : (cells : List NetCell) (u : StoreMap) (a : Atom) (f : AtomFits cells a) → entails u (named cells (a ∷ [])) ≡ value_entails (value_at u f.0.name f.0.cell) a.token
 entails_one cells u a f = ap (λ o. entails u (named_at o a ++ [])) f.1 ∙ alone (store_entails u f.0.name f.0.cell a.token)
   where
     alone : (b : Bool) → (b && true) ≡ b
@@ -35,10 +35,10 @@ pub of_one_kind : (cells : List NetCell) (a : Atom) (v : Value) (f : AtomFits ce
 of_one_kind cells a v f is = kinds_agree f.0.cell.kind f.0.cell.lo f.0.cell.hi v a.token is.domain f.2
 
 -- the answer for the whole is that for the atoms from place i on
-abbrev pub IsLeft : List NetCell → Valuation → List Atom → ℕ → Type 0
+abbrev pub IsLeft : List NetCell → StoreMap → List Atom → ℕ → Type 0
 IsLeft cells u items i = entails u (named cells (drop i items)) ≡ entails u (named cells items)
 
-module _ (cells : List NetCell) (u : Valuation) (items : List Atom) (i : ℕ) (d : Atom) (left : IsLeft cells u items i) where
+module _ (cells : List NetCell) (u : StoreMap) (items : List Atom) (i : ℕ) (d : Atom) (left : IsLeft cells u items i) where
   here : i < length items → entails u (named cells items) ≡ (entails u (named cells (get_or items i d ∷ [])) && entails u (named cells (drop (i + 1) items)))
   here h =
       sym left
@@ -51,5 +51,5 @@ module _ (cells : List NetCell) (u : Valuation) (items : List Atom) (i : ℕ) (d
   pub left_fails : i < length items → (b : Bool) → b ≡ entails u (named cells (get_or items i d ∷ [])) → b ≡ false → false ≡ entails u (named cells items)
   left_fails h b e f = sym (here h ∙ ap (λ x. x && entails u (named cells (drop (i + 1) items))) (sym e ∙ f))
 
-pub left_ends : (cells : List NetCell) (u : Valuation) (items : List Atom) (i : ℕ) → IsLeft cells u items i → length items ≤ i → true ≡ entails u (named cells items)
+pub left_ends : (cells : List NetCell) (u : StoreMap) (items : List Atom) (i : ℕ) → IsLeft cells u items i → length items ≤ i → true ≡ entails u (named cells items)
 left_ends cells u items i left h = ap (λ xs. entails u (named cells xs)) (sym (drop_all i items h)) ∙ left

@@ -15,7 +15,7 @@ use Rattle.token_system.specs.Names.{name_cmp, name_total, name_cmp-IsAntisymmet
 use Rattle.token_system.specs.Domain.{is_bound, is_cell}
 use Rattle.token_system.specs.Tokens.{Fits, fits_kind}
 use Rattle.token_system.specs.Values.{bottom_of, bottom_for, value_with, value_eq, IsValueOf, IsProper, OfOneKind, WithinDomain}
-use Rattle.token_system.specs.Stores.{Valuation, value_at, stored, told, IsKeptFor, CanHold}
+use Rattle.token_system.specs.Stores.{StoreMap, value_at, stored, after_tell, IsKeptFor, CanHold}
 use Rattle.token_system.proofs.Alike.{true_false, within_bound}
 use Rattle.token_system.proofs.Adding.{value_eq-true, value_eq-itself}
 use Rattle.token_system.proofs.Telling.{equal_names, value_at-told}
@@ -28,7 +28,7 @@ use Rattle.instant_net.proofs.StoreLookups.{HasNone, names_apart, get-none}
 
 -- ONE OVER ANOTHER
 
-insert_twice : (s : Valuation) (n : CellName) (v w : Value) → insert (insert s n v) n w ≡ insert s n w
+insert_twice : (s : StoreMap) (n : CellName) (v w : Value) → insert (insert s n v) n w ≡ insert s n w
 insert_twice s n v w = same_map name_total name_cmp-IsAntisymmetric (insert (insert s n v) n w) (insert s n w) (λ q.
     get-insert name_total (insert s n v) n w q ∙ ap (cond (eq_by_cmp name_cmp q n) (Some w)) (get-insert name_total s n v q) ∙ over (eq_by_cmp name_cmp q n) (get s q) ∙ sym (get-insert name_total s n w q))
   where
@@ -36,7 +36,7 @@ insert_twice s n v w = same_map name_total name_cmp-IsAntisymmetric (insert (ins
     over true o = refl
     over false o = refl
 
-insert_other : (s : Valuation) (n m : CellName) (v w : Value) → n ≢ m → insert (insert s n v) m w ≡ insert (insert s m w) n v
+insert_other : (s : StoreMap) (n m : CellName) (v w : Value) → n ≢ m → insert (insert s n v) m w ≡ insert (insert s m w) n v
 insert_other s n m v w d = same_map name_total name_cmp-IsAntisymmetric (insert (insert s n v) m w) (insert (insert s m w) n v) (λ q.
     get-insert name_total (insert s n v) m w q ∙ ap (cond (eq_by_cmp name_cmp q m) (Some w)) (get-insert name_total s n v q)
     ∙ swap q (eq_by_cmp name_cmp q m) (eq_by_cmp name_cmp q n) refl refl
@@ -49,7 +49,7 @@ insert_other s n m v w d = same_map name_total name_cmp-IsAntisymmetric (insert 
     swap q false false e f = refl
 
 -- values of two names, in either order
-stored_other : (s : Valuation) (n m : CellName) (c d : Cell) (v w : Value) → n ≢ m → stored (stored s n c v) m d w ≡ stored (stored s m d w) n c v
+stored_other : (s : StoreMap) (n m : CellName) (c d : Cell) (v w : Value) → n ≢ m → stored (stored s n c v) m d w ≡ stored (stored s m d w) n c v
 stored_other s n m c d v w apart = go (value_eq v (bottom_of c)) (value_eq w (bottom_of d))
   where
     go : (a b : Bool) → cond b (cond a s (insert s n v)) (insert (cond a s (insert s n v)) m w) ≡ cond a (cond b s (insert s m w)) (insert (cond b s (insert s m w)) n v)
@@ -87,7 +87,7 @@ upper_second lo most hi m l = go (int_le most hi) (int_lt hi lo) refl refl
     go false true e f = absurd (grind (arith, ints))
     go false false e f = refl
 
-module _ (s : Valuation) (n : CellName) (c : Cell) (lo hi : ℤ) (none : get s n ≡ None) (is : IsValueOf c (values.Number lo hi)) where
+module _ (s : StoreMap) (n : CellName) (c : Cell) (lo hi : ℤ) (none : get s n ≡ None) (is : IsValueOf c (values.Number lo hi)) where
   kind : c.kind ≡ Number
   kind = (number_kind c.kind c.lo c.hi lo hi is.domain).0
 
@@ -115,11 +115,11 @@ module _ (s : Valuation) (n : CellName) (c : Cell) (lo hi : ℤ) (none : get s n
   first_told : value_with (value_at s n c) (AtLeast lo) ≡ values.Number lo c.hi
   first_told = ap (λ o. value_with (unwrap_or o (bottom_of c)) (AtLeast lo)) none ∙ ap (λ v. value_with v (AtLeast lo)) bottom_is ∙ lower_first c.lo c.hi lo low lo_most
 
-  after_first : value_at (told s n c (AtLeast lo)) n c ≡ values.Number lo c.hi
+  after_first : value_at (after_tell s n c (AtLeast lo)) n c ≡ values.Number lo c.hi
   after_first = value_at-told s n c (AtLeast lo) fits_low (subst (λ (o : Option Value). IfSome o (IsKeptFor c)) (sym none) tt) ∙ first_told
 
-  -- so the upper bound may be told
-  pub can_hold : CanHold (told s n c (AtLeast lo)) n c (AtMost hi)
+  -- so the upper bound may be after_tell
+  pub can_hold : CanHold (after_tell s n c (AtLeast lo)) n c (AtMost hi)
   can_hold = record {
     fits = fits_high;
     kind = subst (λ (v : Value). OfOneKind v (AtMost hi)) (sym after_first) tt;
@@ -127,10 +127,10 @@ module _ (s : Valuation) (n : CellName) (c : Cell) (lo hi : ℤ) (none : get s n
   }
 
   -- and then the store keeps the value
-  pub both_told : told (told s n c (AtLeast lo)) n c (AtMost hi) ≡ stored s n c (values.Number lo hi)
+  pub both_told : after_tell (after_tell s n c (AtLeast lo)) n c (AtMost hi) ≡ stored s n c (values.Number lo hi)
   both_told =
-      ap (λ v. stored (told s n c (AtLeast lo)) n c (value_with v (AtMost hi))) after_first
-      ∙ ap (stored (told s n c (AtLeast lo)) n c) (upper_second lo c.hi hi high is.proper)
+      ap (λ v. stored (after_tell s n c (AtLeast lo)) n c (value_with v (AtMost hi))) after_first
+      ∙ ap (stored (after_tell s n c (AtLeast lo)) n c) (upper_second lo c.hi hi high is.proper)
       ∙ ap (λ v. stored (stored s n c v) n c (values.Number lo hi)) first_told
       ∙ go (value_eq (values.Number lo c.hi) (bottom_of c)) (value_eq (values.Number lo hi) (bottom_of c)) refl refl
     where

@@ -14,7 +14,7 @@ use Rattle.token_system.specs.declared.name.CellName.TheVariants.{Declared}
 use Rattle.token_system.specs.Names.{name_cmp, name_equiv, name_cmp-IsAntisymmetric}
 use Rattle.token_system.specs.Tokens.{Fits}
 use Rattle.token_system.specs.Values.{value_entails, bottom_of}
-use Rattle.token_system.specs.Stores.{Valuation, value_at, store_entails, IsKeptFor}
+use Rattle.token_system.specs.Stores.{StoreMap, value_at, store_entails, IsKeptFor}
 use Rattle.token_system.proofs.Alike.{same_tokens}
 use Rattle.agent_core.specs.declared.node.CellDecl.{CellDecl}
 use Rattle.agent_core.specs.declared.node.Closure.{Closure}
@@ -46,15 +46,15 @@ use Rattle.instant_net.proofs.NetRests.{net-rests}
 
 -- STORES THAT AGREE ON THE CELLS
 
-abbrev Agree : List NetCell → Valuation → Valuation → Type 0
+abbrev Agree : List NetCell → StoreMap → StoreMap → Type 0
 Agree cells u w = (c : NetCell) (t : Token) → Contains cells c → store_entails u c.name c.cell t ≡ store_entails w c.name c.cell t
 
-module _ (cells : List NetCell) (u w : Valuation) (agree : Agree cells u w) where
+module _ (cells : List NetCell) (u w : StoreMap) (agree : Agree cells u w) where
   atom-alike : (a : Atom) (o : Option NetCell) → slice_get cells a.cell ≡ o → list_all (holds u) (named_at o a) ≡ list_all (holds w) (named_at o a)
   atom-alike a None e = refl
   atom-alike a (Some c) e = ap (λ (r : Bool). r && true) (agree c a.token (same-elements cells c a.cell e))
 
-  entails-append : (s : Valuation) (xs ys : List Named) → entails s (xs ++ ys) ≡ (entails s xs && entails s ys)
+  entails-append : (s : StoreMap) (xs ys : List Named) → entails s (xs ++ ys) ≡ (entails s xs && entails s ys)
   entails-append s [] ys = refl
   entails-append s (x ∷ xs) ys = ap (λ (r : Bool). holds s x && r) (entails-append s xs ys) ∙ and_assoc (holds s x) (entails s xs) (entails s ys)
     where
@@ -107,13 +107,13 @@ module _ (cells : List NetCell) (u w : Valuation) (agree : Agree cells u w) wher
   kind-alike (kinds.StartsHence c) = refl
   kind-alike (kinds.StartsNext c) = refl
 
-  leaf-alike : (v : Valuation) (l : Leaf) → Each GuardAlike l.path → entails u (told_by l.kind) ≡ entails w (told_by l.kind) → leaf_rests u v l ≡ leaf_rests w v l
+  leaf-alike : (v : StoreMap) (l : Leaf) → Each GuardAlike l.path → entails u (told_by l.kind) ≡ entails w (told_by l.kind) → leaf_rests u v l ≡ leaf_rests w v l
   leaf-alike v l h e =
       let by_v : Bool = list_all (asked v) l.path ⇒ entails v (told_by l.kind) in
       ap (λ (r : Bool). list_all (free v) l.path ⇒ ((r ⇒ entails u (told_by l.kind)) && by_v)) (asked-alike l.path h)
       ∙ ap (λ (r : Bool). list_all (free v) l.path ⇒ ((list_all (asked w) l.path ⇒ r) && by_v)) e
 
-  leaves-alike : (v : Valuation) (net : Flat) → net.cells ≡ cells → (ls : List NetLeaf) → leaves_rest (map (named_leaf (record net { cells = cells })) ls) u v ≡ leaves_rest (map (named_leaf (record net { cells = cells })) ls) w v
+  leaves-alike : (v : StoreMap) (net : Flat) → net.cells ≡ cells → (ls : List NetLeaf) → leaves_rest (map (named_leaf (record net { cells = cells })) ls) u v ≡ leaves_rest (map (named_leaf (record net { cells = cells })) ls) w v
   leaves-alike v net e [] = refl
   leaves-alike v net e (l ∷ ls) =
       let net' : Flat = record net { cells = cells } in
@@ -123,7 +123,7 @@ module _ (cells : List NetCell) (u w : Valuation) (agree : Agree cells u w) wher
 
 -- STORES OF THE NET AND OF THE PROGRAM
 
-none-entails : (s : Valuation) (n : CellName) (c : Cell) (t : Token) → get s n ≡ None → store_entails s n c t ≡ store_entails empty n c t
+none-entails : (s : StoreMap) (n : CellName) (c : Cell) (t : Token) → get s n ≡ None → store_entails s n c t ≡ store_entails empty n c t
 none-entails s n c t e = ap (λ (o : Option Value). value_entails (unwrap_or o (bottom_of c)) t) (e ∙ sym (get-empty name_cmp n))
 
 name-in : (cells : List NetCell) (n : CellName) → Contains (cell_names cells) n → (c : NetCell) × Contains cells c × (c.name ≡ n)
@@ -141,13 +141,13 @@ module _ (p : CoreProgram) (table : List ℕ) (rs : List Closure) (t : ℕ) (net
       let one = cell-of c h in
       one.cell ∙ ap (λ (x : CellDecl). x.cell) (Names-one p n one.decl d (subst (λ (q : CellName). Names p q one.decl) e one.named) named)
 
-  pub store-up : (s : Valuation) → IsStoreOf net.cells s → IsStore p s
+  pub store-up : (s : StoreMap) → IsStoreOf net.cells s → IsStore p s
   store-up s h n x e =
       let r = h n x e in
       let one = cell-of r.0 r.1 in
       (one.decl, subst (λ (q : CellName). Names p q one.decl) r.2 one.named, subst (λ (c : Cell). IsKeptFor c x) one.cell r.3)
 
-  pub below-up : (u v : Valuation) → IsStoreOf net.cells u → IsStore p v → Below net.cells u v → core.Below p u v
+  pub below-up : (u v : StoreMap) → IsStoreOf net.cells u → IsStore p v → Below net.cells u v → core.Below p u v
   below-up u v iu iv h n d x named fits up = go (get u n) refl
     where
       go : (o : Option Value) → get u n ≡ o → IsTrue (store_entails v n d.cell x)
@@ -160,13 +160,13 @@ module _ (p : CoreProgram) (table : List ℕ) (rs : List Closure) (t : ℕ) (net
           (h r.0 x r.1 (subst (λ (c : Cell). Fits c x) (sym same) fits)
           (subst (λ (q : CellName). IsTrue (store_entails u q r.0.cell x)) (sym r.2) (subst (λ (c : Cell). IsTrue (store_entails u n c x)) (sym same) up))))
 
-  pub below-down : (u v : Valuation) → core.Below p u v → Below net.cells u v
+  pub below-down : (u v : StoreMap) → core.Below p u v → Below net.cells u v
   below-down u v h c x at fits up =
       let one = cell-of c at in
       subst (λ (y : Cell). IsTrue (store_entails v c.name y x)) (sym one.cell)
       (h c.name one.decl x one.named (subst (λ (y : Cell). Fits y x) one.cell fits) (subst (λ (y : Cell). IsTrue (store_entails u c.name y x)) one.cell up))
 
-  input-down : (s : Valuation) → IsInput p s → IsStoreOf net.cells s
+  input-down : (s : StoreMap) → IsInput p s → IsStoreOf net.cells s
   input-down s is n x e =
       let k = is.declared n x e in
       let r = is.store n x e in
@@ -176,7 +176,7 @@ module _ (p : CoreProgram) (table : List ℕ) (rs : List Closure) (t : ℕ) (net
       let called : at.0.name ≡ n = at.2 ∙ sym k.1 in
       (at.0, stands, called, subst (λ (c : Cell). IsKeptFor c x) (sym (cell-same at.0 n r.0 stands called r.1)) r.2)
 
-  store-down : (u v : Valuation) → IsStore p u → IsStoreOf net.cells v → core.Below p u v → IsStoreOf net.cells u
+  store-down : (u v : StoreMap) → IsStore p u → IsStoreOf net.cells v → core.Below p u v → IsStoreOf net.cells u
   store-down u v iu sv below n x e = go (get v n) refl
     where
       r : (d : CellDecl) × Names p n d × IsKeptFor d.cell x
@@ -200,10 +200,10 @@ module _ (p : CoreProgram) (table : List ℕ) (rs : List Closure) (t : ℕ) (net
   is_named : CellName → Bool
   is_named q = list_any (eq_by_cmp name_cmp q) (cell_names net.cells)
 
-  abbrev restricted : Valuation → Valuation
+  abbrev restricted : StoreMap → StoreMap
   restricted v = retain_keys v is_named
 
-  get-restricted : (v : Valuation) (q : CellName) → get (restricted v) q ≡ cond (is_named q) (get v q) None
+  get-restricted : (v : StoreMap) (q : CellName) → get (restricted v) q ≡ cond (is_named q) (get v q) None
   get-restricted v q = get-retain_keys v is_named q (λ x e. ap is_named (sym (name_cmp-IsAntisymmetric q x e)))
 
   named-in : (q : CellName) → is_named q ≡ true → (c : NetCell) × Contains net.cells c × (c.name ≡ q)
@@ -214,7 +214,7 @@ module _ (p : CoreProgram) (table : List ℕ) (rs : List Closure) (t : ℕ) (net
   unfolding is_named
   in-named c h = list_any-from_Contains name_equiv c.name (cell_names net.cells) (Contains-map (λ (x : NetCell). x.name) net.cells c h)
 
-  restricted-store : (v : Valuation) → IsStore p v → IsStoreOf net.cells (restricted v)
+  restricted-store : (v : StoreMap) → IsStore p v → IsStoreOf net.cells (restricted v)
   restricted-store v iv n x e = go (is_named n) refl
     where
       go : (b : Bool) → is_named n ≡ b → (c : NetCell) × Contains net.cells c × (c.name ≡ n) × IsKeptFor c.cell x
@@ -224,18 +224,18 @@ module _ (p : CoreProgram) (table : List ℕ) (rs : List Closure) (t : ℕ) (net
           (c.0, c.1, c.2, subst (λ (y : Cell). IsKeptFor y x) (sym (cell-same c.0 n r.0 c.1 c.2 r.1)) r.2)
       go false f = absurd (let g : None ≡ Some x = ap (λ (b : Bool). cond b (get v n) None) (sym f) ∙ sym (get-restricted v n) ∙ e in cc)
 
-  restricted-agree : (v : Valuation) → Agree net.cells (restricted v) v
+  restricted-agree : (v : StoreMap) → Agree net.cells (restricted v) v
   restricted-agree v c x at = ap (λ (o : Option Value). value_entails (unwrap_or o (bottom_of c.cell)) x) (get-restricted v c.name ∙ ap (λ (b : Bool). cond b (get v c.name) None) (in-named c at))
 
   -- OUTPUTS
 
-  abbrev rest_here : Valuation → Valuation → Bool
+  abbrev rest_here : StoreMap → StoreMap → Bool
   rest_here u v = leaves_rest (net_leaves net) u v
 
-  rests-same : (u v : Valuation) → core.Below p u v → roots_rest p rs t u v ≡ rest_here u v
+  rests-same : (u v : StoreMap) → core.Below p u v → roots_rest p rs t u v ≡ rest_here u v
   rests-same u v below = closures_leaves p of.program rs (all_each (IsOwn p) rs of.roots) t u v below ∙ sym (net-rests p table rs t net of u v)
 
-  roots-output : (i v : Valuation) → IsOutput net i v → IsOutputOf p rs t i v
+  roots-output : (i v : StoreMap) → IsOutput net i v → IsOutputOf p rs t i v
   roots-output i v o =
       let iv = store-up v o.store in
       record {
@@ -246,9 +246,9 @@ module _ (p : CoreProgram) (table : List ℕ) (rs : List Closure) (t : ℕ) (net
         least = λ u iu bi bv r. o.least u (store-down u v iu o.store bv) (below-down i u bi) (below-down u v bv) (sym (rests-same u v bv) ∙ r);
       }
 
-  net-output : (i v : Valuation) → IsInput p i → IsOutputOf p rs t i v → IsOutput net i v
+  net-output : (i v : StoreMap) → IsInput p i → IsOutputOf p rs t i v → IsOutput net i v
   net-output i v is o =
-      let w : Valuation = restricted v in
+      let w : StoreMap = restricted v in
       let si = input-down i is in
       let sw = restricted-store v o.store in
       let iw = store-up w sw in
@@ -269,5 +269,5 @@ module _ (p : CoreProgram) (table : List ℕ) (rs : List Closure) (t : ℕ) (net
             o.least u iu (below-up i u si iu bi) ub (rests-same u v ub ∙ r);
       }
 
-  pub same-outputs : (i v : Valuation) → IsInput p i → (IsOutput net i v → IsOutputOf p rs t i v) × (IsOutputOf p rs t i v → IsOutput net i v)
+  pub same-outputs : (i v : StoreMap) → IsInput p i → (IsOutput net i v → IsOutputOf p rs t i v) × (IsOutputOf p rs t i v → IsOutput net i v)
   same-outputs i v is = (roots-output i v, net-output i v is)

@@ -12,7 +12,7 @@ use Rattle.token_system.specs.declared.name.CellName.{CellName}
 use Rattle.token_system.specs.Names.{name_total, name_cmp-IsAntisymmetric}
 use Rattle.token_system.specs.Domain.{is_bound, is_cell}
 use Rattle.token_system.specs.Values.{bottom_of, IsValueOf, IsProper, WithinDomain}
-use Rattle.token_system.specs.Stores.{Valuation, value_at, IsKeptFor}
+use Rattle.token_system.specs.Stores.{StoreMap, value_at, IsKeptFor}
 use Rattle.token_system.proofs.Alike.{true_false, within_bound}
 use Rattle.token_system.proofs.Adding.{bottom_within, value_eq-itself}
 use Rattle.instant_net.specs.declared.parts.NetCell.{NetCell}
@@ -124,10 +124,10 @@ kind-width Number most values.Clash = refl
 -- ALL CELLS
 
 -- the store has a value of each cell
-abbrev HasValues : List NetCell → Valuation → Type 0
+abbrev HasValues : List NetCell → StoreMap → Type 0
 HasValues cells s = (i : ℕ) (c : NetCell) → slice_get cells i ≡ Some c → IsValueOf c.cell (value_at s c.name c.cell)
 
-all-above : (cells : List NetCell) (s : Valuation) → HasValues cells s → AreAbove (hows cells) (empty_words cells) (store_words cells s)
+all-above : (cells : List NetCell) (s : StoreMap) → HasValues cells s → AreAbove (hows cells) (empty_words cells) (store_words cells s)
 all-above [] s values = tt
 all-above (c ∷ cells) s values =
     let v = values 0 c refl in
@@ -136,13 +136,13 @@ all-above (c ∷ cells) s values =
     (all-above cells s (λ i. values (suc i)))
 
 -- what stands before and after the words of a cell
-record StandsIn (n : ℕ) (cells : List NetCell) (s : Valuation) (c : NetCell) : Type 0 where
+record StandsIn (n : ℕ) (cells : List NetCell) (s : StoreMap) (c : NetCell) : Type 0 where
   before : List ℕ
   after : List ℕ
   words_are : store_words cells s ≡ before ++ (kind_words c.cell.kind c.cell.hi (value_at s c.name c.cell) ++ after)
   place : n + length before ≡ c.first
 
-stands_in : (cells : List NetCell) (s : Valuation) (n k : ℕ) (c : NetCell) → AreLaidOut n cells → slice_get cells k ≡ Some c → StandsIn n cells s c
+stands_in : (cells : List NetCell) (s : StoreMap) (n k : ℕ) (c : NetCell) → AreLaidOut n cells → slice_get cells k ≡ Some c → StandsIn n cells s c
 stands_in [] s n k c l e = absurd (cc)
 stands_in (d ∷ cells) s n zero c l e =
     let same : d ≡ c = cc in
@@ -159,7 +159,7 @@ stands_in (d ∷ cells) s n (suc k) c l e =
       place = omega (arith, length-append own p.before);
     }
 
-value_back : (cells : List NetCell) (s : Valuation) → AreLaidOut 0 cells → HasValues cells s → (k : ℕ) (c : NetCell) → slice_get cells k ≡ Some c → value_in (store_words cells s) c ≡ value_at s c.name c.cell
+value_back : (cells : List NetCell) (s : StoreMap) → AreLaidOut 0 cells → HasValues cells s → (k : ℕ) (c : NetCell) → slice_get cells k ≡ Some c → value_in (store_words cells s) c ≡ value_at s c.name c.cell
 value_back cells s laid values k c e =
     let p = stands_in cells s 0 k c laid e in
     let v = values k c e in
@@ -169,7 +169,7 @@ value_back cells s laid values k c e =
     ∙ ap (λ j. slice_index (p.before ++ (kind_words c.cell.kind c.cell.hi (value_at s c.name c.cell) ++ p.after)) j) (omega arith)
     ∙ get_or-append-add p.before (kind_words c.cell.kind c.cell.hi (value_at s c.name c.cell) ++ p.after) i 0)
 
-module _ (cells : List NetCell) (order : AreInOrder cells) (s : Valuation) (is : IsStoreOf cells s) where
+module _ (cells : List NetCell) (order : AreInOrder cells) (s : StoreMap) (is : IsStoreOf cells s) where
   -- one name has one cell
   one_cell : (i : ℕ) (c d : NetCell) → slice_get cells i ≡ Some c → Contains cells d → d.name ≡ c.name → d ≡ c
   one_cell i c d e has same = go (split has.0 i) (split i has.0)
@@ -219,7 +219,7 @@ module _ (cells : List NetCell) (order : AreInOrder cells) (s : Valuation) (is :
 
 -- PLACE BY PLACE
 
-pub store_words-more : (cells : List NetCell) (s : Valuation) (k : ℕ) (c : NetCell) → slice_get cells k ≡ Some c
+pub store_words-more : (cells : List NetCell) (s : StoreMap) (k : ℕ) (c : NetCell) → slice_get cells k ≡ Some c
     → store_words (take (k + 1) cells) s ≡ store_words (take k cells) s ++ kind_words c.cell.kind c.cell.hi (value_at s c.name c.cell)
 store_words-more cells s k c e =
     ap (λ xs. store_words xs s) (take-found cells k c e)

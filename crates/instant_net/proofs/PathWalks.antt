@@ -6,7 +6,7 @@ use Rattle.std.specs.Prelude.{slice_get, slice_index_or}
 use Rattle.std.specs.List.{list_all}
 use Rattle.std.proofs.lemmas.List.Folds.{list_all-append}
 use Rattle.std.proofs.lemmas.Option.{slice_get_cases}
-use Rattle.token_system.specs.Stores.{Valuation}
+use Rattle.token_system.specs.Stores.{StoreMap}
 use Rattle.instant_net.specs.declared.parts.NetCell.{NetCell}
 use Rattle.instant_net.specs.declared.parts.NetGuard.{NetGuard}
 use Rattle.instant_net.specs.declared.parts.NetLeaf.{NetLeaf}
@@ -49,10 +49,10 @@ path_at cells (x ∷ guards) paths (suc j) g e below =
     ∙ path_at cells guards (paths ++ own ∷ []) j g e (λ i y f. subst (λ (n : ℕ). IsBelow n y.above) (omega arith) (below (suc i) y f))
 
 -- u allows each guard on the path
-abbrev pub is_free_of : Flat → Valuation → Option ℕ → Bool
+abbrev pub is_free_of : Flat → StoreMap → Option ℕ → Bool
 is_free_of net u o = list_all (allows u) (path_to (paths_from net.cells [] net.guards) o)
 
-module _ (net : Flat) (is : IsNet net) (u : Valuation) where
+module _ (net : Flat) (is : IsNet net) (u : StoreMap) where
   abbrev paths : List (List Guard)
   paths = paths_from net.cells [] net.guards
 
@@ -103,11 +103,11 @@ place None = 0
 place (Some k) = suc k
 
 -- a leaf runs where its whole path is free
-pub runs_free : (net : Flat) (u : Valuation) (k : ℕ) (l : NetLeaf) → slice_get net.leaves k ≡ Some l → is_free_of net u (last_of (slice_get net.leaves k)) ≡ runs u (named_leaf net l)
+pub runs_free : (net : Flat) (u : StoreMap) (k : ℕ) (l : NetLeaf) → slice_get net.leaves k ≡ Some l → is_free_of net u (last_of (slice_get net.leaves k)) ≡ runs u (named_leaf net l)
 runs_free net u k l e = ap (λ o. is_free_of net u (last_of o)) e
 
 -- a guard is reached where the path above it is free
-pub reaches_free : (net : Flat) (u : Valuation) (k : ℕ) (g : NetGuard) → slice_get net.guards k ≡ Some g → is_free_of net u (above_of (slice_get net.guards k)) ≡ reaches u (named_occurrence net g)
+pub reaches_free : (net : Flat) (u : StoreMap) (k : ℕ) (g : NetGuard) → slice_get net.guards k ≡ Some g → is_free_of net u (above_of (slice_get net.guards k)) ≡ reaches u (named_occurrence net g)
 reaches_free net u k g e = ap (λ o. is_free_of net u (above_of o)) e
 
 pub place_falls : (k : ℕ) (o p : Option ℕ) → p ≡ Some k → IsBelow k o → place o < place p

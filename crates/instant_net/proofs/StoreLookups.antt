@@ -10,7 +10,7 @@ use Rattle.token_system.specs.declared.cell.Value.{Value}
 use Rattle.token_system.specs.declared.name.CellName.{CellName}
 use Rattle.token_system.specs.Names.{name_cmp, name_total}
 use Rattle.token_system.specs.Values.{bottom_of, value_eq, IsValueOf}
-use Rattle.token_system.specs.Stores.{Valuation, value_at, stored, IsKeptFor}
+use Rattle.token_system.specs.Stores.{StoreMap, value_at, stored, IsKeptFor}
 use Rattle.token_system.proofs.Alike.{true_false}
 use Rattle.token_system.proofs.Adding.{value_eq-true, value_eq-itself}
 use Rattle.token_system.proofs.Telling.{equal_names}
@@ -68,21 +68,21 @@ names_apart cells i j c d o e f h = less_differs c.name d.name (names_rise cells
 abbrev pub kept : Cell → Value → Option Value
 kept c v = cond (value_eq v (bottom_of c)) None (Some v)
 
-get-stored : (s : Valuation) (n : CellName) (c : Cell) (v : Value) (q : CellName) → get (stored s n c v) q ≡ cond (value_eq v (bottom_of c)) (get s q) (cond (eq_by_cmp name_cmp q n) (Some v) (get s q))
+get-stored : (s : StoreMap) (n : CellName) (c : Cell) (v : Value) (q : CellName) → get (stored s n c v) q ≡ cond (value_eq v (bottom_of c)) (get s q) (cond (eq_by_cmp name_cmp q n) (Some v) (get s q))
 get-stored s n c v q = go (value_eq v (bottom_of c))
   where
     go : (b : Bool) → get (cond b s (insert s n v)) q ≡ cond b (get s q) (cond (eq_by_cmp name_cmp q n) (Some v) (get s q))
     go true = refl
     go false = get-insert name_total s n v q
 
-pub get-stored_other : (s : Valuation) (n : CellName) (c : Cell) (v : Value) (q : CellName) → q ≢ n → get (stored s n c v) q ≡ get s q
+pub get-stored_other : (s : StoreMap) (n : CellName) (c : Cell) (v : Value) (q : CellName) → q ≢ n → get (stored s n c v) q ≡ get s q
 get-stored_other s n c v q d = get-stored s n c v q ∙ go (value_eq v (bottom_of c))
   where
     go : (b : Bool) → cond b (get s q) (cond (eq_by_cmp name_cmp q n) (Some v) (get s q)) ≡ get s q
     go true = refl
     go false = ap (λ b. cond b (Some v) (get s q)) (differ q n d)
 
-pub get-stored_same : (s : Valuation) (n : CellName) (c : Cell) (v : Value) → get (stored s n c v) n ≡ cond (value_eq v (bottom_of c)) (get s n) (Some v)
+pub get-stored_same : (s : StoreMap) (n : CellName) (c : Cell) (v : Value) → get (stored s n c v) n ≡ cond (value_eq v (bottom_of c)) (get s n) (Some v)
 get-stored_same s n c v = get-stored s n c v n ∙ ap (λ b. cond (value_eq v (bottom_of c)) (get s n) (cond b (Some v) (get s n))) (name_itself n)
 
 -- what a cell's value is kept as says what the value is

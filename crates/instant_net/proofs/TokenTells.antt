@@ -14,7 +14,7 @@ use Rattle.token_system.specs.declared.name.CellName.{CellName}
 use Rattle.token_system.specs.Names.{name_total, name_cmp-IsAntisymmetric}
 use Rattle.token_system.specs.Tokens.{Fits, fits_kind}
 use Rattle.token_system.specs.Values.{bottom_of, value_eq, value_with, IsValueOf}
-use Rattle.token_system.specs.Stores.{Valuation, value_at, stored, told, IsKeptFor}
+use Rattle.token_system.specs.Stores.{StoreMap, value_at, stored, after_tell, IsKeptFor}
 use Rattle.token_system.proofs.Alike.{true_false}
 use Rattle.token_system.proofs.Telling.{value_at-told, get-told_other}
 use Rattle.instant_net.specs.declared.parts.Atom.{Atom}
@@ -45,7 +45,7 @@ word_within Number first token.Clash f = (omega arith, omega arith)
 word_within Number first (token.AtLeast n) f = (omega arith, omega arith)
 word_within Number first (token.AtMost n) f = (omega arith, omega arith)
 
--- and it is told in its own way
+-- and it is after_tell in its own way
 how_told : (k : Kind) (first : ℕ) (t : Token) (at : ℕ → How) (after : List How) → IsTrue (fits_kind k t) → ((i : ℕ) → i < length (kind_hows k) → at (first + i) ≡ get_or (kind_hows k ++ after) i Or)
     → at (told_as k first t).word ≡ (told_as k first t).how
 how_told Signal first token.On at after f h = ap at (omega arith) ∙ h 0 (omega arith)
@@ -72,7 +72,7 @@ module _ (cells : List NetCell) (laid : AreLaidOut 0 cells) (words : List ℕ) (
     pub fits_in : c.first + width c ≤ length words
     fits_in = let l = long in let w = within cells c here in omega arith
 
-    -- the word lies above the one of which nothing is told
+    -- the word lies above the one of which nothing is after_tell
     lies_at : (j : ℕ) → j < width c → Lies (get_or (kind_hows c.cell.kind ++ here.hows_after) j Or) (slice_index (unknown_words c.cell.kind c.cell.lo c.cell.hi ++ here.after) j) (slice_index words (c.first + j))
     lies_at j h =
         let f = fits_in in
@@ -97,7 +97,7 @@ module _ (cells : List NetCell) (laid : AreLaidOut 0 cells) (words : List ℕ) (
         let s = greatest_small c.cell.lo c.cell.hi (subst (λ (x : Kind). IsTrue (is_cell x c.cell.lo c.cell.hi)) k c.cell.lawful) in
         omega arith
 
-    -- the words after a token of this cell is told
+    -- the words after a token of this cell is after_tell
     module _ (t : Token) (f : Fits c.cell t) where
       abbrev after : List ℕ
       after = tell_word words (told_as c.cell.kind c.first t)
@@ -129,11 +129,11 @@ module _ (cells : List NetCell) (laid : AreLaidOut 0 cells) (words : List ℕ) (
           (how_told c.cell.kind c.first t (λ k. slice_index_or (hows cells) k Or) here.hows_after f (how_at cells c here))
 
       module _ (order : AreInOrder cells) where
-        abbrev before : Valuation
+        abbrev before : StoreMap
         before = store_in cells words
 
-        -- what the store keeps for the cell after the token is told
-        kept_here : get (told before c.name c.cell t) c.name ≡ kept c.cell (value_with (value_in words c) t)
+        -- what the store keeps for the cell after the token is after_tell
+        kept_here : get (after_tell before c.name c.cell t) c.name ≡ kept c.cell (value_with (value_in words c) t)
         kept_here =
             let value = value_at-cell cells words order i c e in
             let stays = value_at-told before c.name c.cell t f (subst (λ (o : Option Value). IfSome o (IsKeptFor c.cell)) (sym (get-cell cells words order i c e)) (kept-IsKeptFor c.cell (value_in words c) value_of_cell)) in
@@ -148,20 +148,20 @@ module _ (cells : List NetCell) (laid : AreLaidOut 0 cells) (words : List ℕ) (
                 let same : value_in words c ≡ value_with (value_in words c) t = sym (value_at-cell cells words order i c e) ∙ s in
                 get-cell cells words order i c e ∙ ap (kept c.cell) same ∙ ap (λ b. cond b None (Some (value_with (value_in words c) t))) q
 
-        told_store : store_in cells after ≡ told before c.name c.cell t
-        told_store = same_map name_total name_cmp-IsAntisymmetric (store_in cells after) (told before c.name c.cell t) (λ q. go q (same_or_not q c.name))
+        told_store : store_in cells after ≡ after_tell before c.name c.cell t
+        told_store = same_map name_total name_cmp-IsAntisymmetric (store_in cells after) (after_tell before c.name c.cell t) (λ q. go q (same_or_not q c.name))
           where
             elsewhere : (j : ℕ) (d : NetCell) → slice_get cells j ≡ Some d → d.name ≢ c.name → value_in after d ≡ value_in words d
             elsewhere j d g n = value_elsewhere j d g (λ same. let one : Some d ≡ Some c = sym g ∙ ap (slice_get cells) (sym same) ∙ e in let cell : d ≡ c = cc in n (ap (λ (x : NetCell). x.name) cell))
 
-            go : (q : CellName) → (q ≡ c.name) ⊎ (q ≢ c.name) → get (store_in cells after) q ≡ get (told before c.name c.cell t) q
-            go q (inl same) = subst (λ (m : CellName). get (store_in cells after) m ≡ get (told before c.name c.cell t) m) (sym same)
+            go : (q : CellName) → (q ≡ c.name) ⊎ (q ≢ c.name) → get (store_in cells after) q ≡ get (after_tell before c.name c.cell t) q
+            go q (inl same) = subst (λ (m : CellName). get (store_in cells after) m ≡ get (after_tell before c.name c.cell t) m) (sym same)
                 (get-cell cells after order i c e ∙ ap (kept c.cell) value_here ∙ sym kept_here)
             go q (inr other) = same_elsewhere cells words after c.name elsewhere q other ∙ sym (get-told_other before c.name q c.cell t other)
 
 -- ATOMS
 
--- a token of an atom is told to its cell's words
+-- a token of an atom is after_tell to its cell's words
 module _ (cells : List NetCell) (laid : AreLaidOut 0 cells) (order : AreInOrder cells) where
   pub told_in_range : (words : List ℕ) → AreWords cells words → (a : Atom) → AtomFits cells a → (told_of cells a).word < length words
   told_in_range words are a f =
@@ -180,7 +180,7 @@ module _ (cells : List NetCell) (laid : AreLaidOut 0 cells) (order : AreInOrder 
       let f = All-head (AtomFits cells) a atoms fit in
       let next = atom-AreWords words are a f in
       let rest = all_told atoms (All-tail (AtomFits cells) a atoms fit) (tell_word words (told_of cells a)) next in
-      let one : store_in cells (tell_word words (told_of cells a)) ≡ told (store_in cells words) f.0.name f.0.cell a.token =
+      let one : store_in cells (tell_word words (told_of cells a)) ≡ after_tell (store_in cells words) f.0.name f.0.cell a.token =
       ap (λ o. store_in cells (tell_word words (atom_told o a.token))) f.1 ∙ told_store cells laid words are a.cell f.0 f.1 a.token f.2 order in (
         rest.0,
         rest.1

@@ -1,7 +1,7 @@
 -- What is proved of the nets of a program's roots.
 use Rattle.std.specs.Prelude.{◌≡◌, ◌↔◌, ℕ, List}
 use Rattle.std.specs.List.{list_all}
-use Rattle.token_system.specs.Stores.{Valuation}
+use Rattle.token_system.specs.Stores.{StoreMap}
 use Rattle.agent_core.specs.declared.node.Closure.{Closure}
 use Rattle.agent_core.specs.Programs.{CoreProgram}
 use Rattle.agent_core.specs.Stores.{IsInput}
@@ -22,10 +22,10 @@ NetsAreStratified = (p : CoreProgram) (table : List ℕ) (rs : List Closure) (t 
 abbrev pub NetsRestByRoots : Type 0
 NetsRestByRoots =
     (p : CoreProgram) (table : List ℕ) (rs : List Closure) (t : ℕ) (net : Flat) → IsNetOf p table rs t net
-    → (u v : Valuation) → leaves_rest (net_leaves net) u v ≡ list_all (core_rests.leaf_rests p u v) (core.leaves p rs t)
+    → (u v : StoreMap) → leaves_rest (net_leaves net) u v ≡ list_all (core_rests.leaf_rests p u v) (core.leaves p rs t)
 
 -- the outputs of the net are those of the roots, whether the program is stratified or not
 abbrev pub NetsHaveRootOutputs : Type 0
 NetsHaveRootOutputs =
     (p : CoreProgram) (table : List ℕ) (rs : List Closure) (t : ℕ) (net : Flat) → IsNetOf p table rs t net
-    → (i v : Valuation) → IsInput p i → IsOutput net i v ↔ IsOutputOf p rs t i v
+    → (i v : StoreMap) → IsInput p i → IsOutput net i v ↔ IsOutputOf p rs t i v

@@ -4,7 +4,7 @@ use Rattle.std.specs.List.{list_all}
 use Rattle.token_system.specs.declared.cell.Cell.{Cell}
 use Rattle.token_system.specs.declared.cell.Token.{Token}
 use Rattle.token_system.specs.declared.name.CellName.{CellName}
-use Rattle.token_system.specs.Stores.{Valuation, store_entails, told}
+use Rattle.token_system.specs.Stores.{StoreMap, store_entails, after_tell}
 use Rattle.agent_core.specs.declared.node.Closure.{Closure}
 use Rattle.agent_core.specs.Rests.{◌⇒◌}
 use Rattle.instant_net.specs.Occurrences.{Occurrence}
@@ -23,7 +23,7 @@ pub record Guard : Type 0 where
 -- what a leaf is: a skip, a tell of these tokens, or what starts a closure at each later instant, or at the next
 pub data Kind : Type 0 where
   Idle : Kind
-  Tells : (told : List Named) → Kind
+  Tells : (after_tell : List Named) → Kind
   StartsHence : (closure : Closure) → Kind
   StartsNext : (closure : Closure) → Kind
 
@@ -34,13 +34,13 @@ pub record Leaf : Type 0 where
 
 -- what a leaf tells
 abbrev pub told_by : Kind → List Named
-told_by (Tells told) = told
+told_by (Tells after_tell) = after_tell
 told_by _ = []
 
-abbrev pub holds : Valuation → Named → Bool
+abbrev pub holds : StoreMap → Named → Bool
 holds u x = store_entails u x.name x.cell x.token
 
-abbrev pub entails : Valuation → List Named → Bool
+abbrev pub entails : StoreMap → List Named → Bool
 entails u ask = list_all (holds u) ask
 
 abbrev pub allowed : Bool → Bool → Bool
@@ -48,38 +48,38 @@ allowed true entailed = not entailed
 allowed false entailed = entailed
 
 -- the store allows the guard: it does not entail an else ask, or it entails a then ask
-abbrev pub allows : Valuation → Guard → Bool
+abbrev pub allows : StoreMap → Guard → Bool
 allows v g = allowed g.strict (entails v g.ask)
 
 -- the store runs the leaf: it allows each guard above it
-abbrev pub runs : Valuation → Leaf → Bool
+abbrev pub runs : StoreMap → Leaf → Bool
 runs v l = list_all (allows v) l.path
 
 -- the store reaches the occurrence: it allows each guard above it
-abbrev pub reaches : Valuation → Occurrence Guard → Bool
+abbrev pub reaches : StoreMap → Occurrence Guard → Bool
 reaches v o = list_all (allows v) o.path
 
 -- the guard is an else, which v does not entail, or a then
-abbrev pub free : Valuation → Guard → Bool
+abbrev pub free : StoreMap → Guard → Bool
 free v g = cond g.strict (not (entails v g.ask)) true
 
 -- the guard is a then, which u entails, or an else
-abbrev pub asked : Valuation → Guard → Bool
+abbrev pub asked : StoreMap → Guard → Bool
 asked u g = cond g.strict true (entails u g.ask)
 
 -- the leaf rests under (u, v): where v entails no else ask above it, u entails what it tells if u entails each then ask above it, and so does v
-abbrev pub leaf_rests : Valuation → Valuation → Leaf → Bool
+abbrev pub leaf_rests : StoreMap → StoreMap → Leaf → Bool
 leaf_rests u v l =
     list_all (free v) l.path
     ⇒ ((list_all (asked u) l.path ⇒ entails u (told_by l.kind)) && (list_all (asked v) l.path ⇒ entails v (told_by l.kind)))
 
-abbrev pub leaves_rest : List Leaf → Valuation → Valuation → Bool
+abbrev pub leaves_rest : List Leaf → StoreMap → StoreMap → Bool
 leaves_rest ls u v = list_all (leaf_rests u v) ls
 
--- the store after each of the tokens is told
-abbrev pub tell_named : List Named → Valuation → Valuation
+-- the store after each of the tokens is after_tell
+abbrev pub tell_named : List Named → StoreMap → StoreMap
 tell_named [] u = u
-tell_named (x ∷ named) u = tell_named named (told u x.name x.cell x.token)
+tell_named (x ∷ named) u = tell_named named (after_tell u x.name x.cell x.token)
 
 -- the names that a leaf speaks of
 abbrev pub names_of : Leaf → List CellName

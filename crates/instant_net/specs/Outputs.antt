@@ -5,7 +5,7 @@ use Rattle.token_system.specs.declared.cell.Token.{Token}
 use Rattle.token_system.specs.declared.cell.Value.{Value}
 use Rattle.token_system.specs.declared.name.CellName.{CellName}
 use Rattle.token_system.specs.Tokens.{Fits}
-use Rattle.token_system.specs.Stores.{Valuation, store_entails, IsKeptFor}
+use Rattle.token_system.specs.Stores.{StoreMap, store_entails, IsKeptFor}
 use Rattle.instant_net.specs.declared.parts.Atom.{Atom}
 use Rattle.instant_net.specs.declared.parts.NetCell.{NetCell}
 use Rattle.instant_net.specs.declared.parts.NetGuard.{NetGuard}
@@ -15,20 +15,20 @@ use Rattle.instant_net.specs.Nets.{Flat, net_leaves, IsAtOrAbove, atoms_of}
 use Rattle.instant_net.specs.Words.{store_in}
 
 -- each name that the store keeps is one of these cells', with a value of its cell
-abbrev pub IsStoreOf : List NetCell → Valuation → Type 0
+abbrev pub IsStoreOf : List NetCell → StoreMap → Type 0
 IsStoreOf cells s = (n : CellName) (v : Value) → get s n ≡ Some v → (c : NetCell) × Contains cells c × (c.name ≡ n) × IsKeptFor c.cell v
 
 -- of these cells, v entails every token that u entails
-abbrev pub Below : List NetCell → Valuation → Valuation → Type 0
+abbrev pub Below : List NetCell → StoreMap → StoreMap → Type 0
 Below cells u v = (c : NetCell) (t : Token) → Contains cells c → Fits c.cell t → IsTrue (store_entails u c.name c.cell t) → IsTrue (store_entails v c.name c.cell t)
 
 -- v is an output of the net on the input: it lies above the input and rests under itself as guess, and no smaller store above the input rests under that guess
-pub record IsOutput (net : Flat) (input v : Valuation) : Type 0 where
+pub record IsOutput (net : Flat) (input v : StoreMap) : Type 0 where
   pub given : IsStoreOf net.cells input
   pub store : IsStoreOf net.cells v
   pub above : Below net.cells input v
   pub rests : IsTrue (leaves_rest (net_leaves net) v v)
-  pub least : (u : Valuation) → IsStoreOf net.cells u → Below net.cells input u → Below net.cells u v → IsTrue (leaves_rest (net_leaves net) u v) → u ≡ v
+  pub least : (u : StoreMap) → IsStoreOf net.cells u → Below net.cells input u → Below net.cells u v → IsTrue (leaves_rest (net_leaves net) u v) → u ≡ v
 
 -- the same of words: that words equal a store's means that the values do
 abbrev pub IsOutputWords : Flat → List ℕ → List ℕ → Type 0

@@ -7,7 +7,7 @@ use Rattle.token_system.specs.declared.cell.Token.{Token}
 use Rattle.token_system.specs.declared.cell.Token.TheVariants as token
 use Rattle.token_system.specs.declared.cell.Value.{Value}
 use Rattle.token_system.specs.declared.cell.Value.TheVariants as value
-use Rattle.token_system.specs.Stores.{Valuation, value_at, stored}
+use Rattle.token_system.specs.Stores.{StoreMap, value_at, stored}
 use Rattle.instant_net.specs.declared.parts.Atom.{Atom}
 use Rattle.instant_net.specs.declared.parts.NetCell.{NetCell}
 use Rattle.instant_net.specs.declared.words.How.{How}
@@ -89,7 +89,7 @@ abbrev pub value_in : List ℕ → NetCell → Value
 value_in words c = value_by (λ k. slice_index words k) c
 
 -- the store that the words of the cells are
-abbrev pub store_in : List NetCell → List ℕ → Valuation
+abbrev pub store_in : List NetCell → List ℕ → StoreMap
 store_in [] words = empty
 store_in (c ∷ cells) words = stored (store_in cells words) c.name c.cell (value_in words c)
 
@@ -106,7 +106,7 @@ abbrev pub kind_words : Kind → ℤ → Value → List ℕ
 kind_words Signal most v = signal_word v ∷ []
 kind_words Number most v = number_words most v
 
-abbrev pub store_words : List NetCell → Valuation → List ℕ
+abbrev pub store_words : List NetCell → StoreMap → List ℕ
 store_words cells s = flat_map (λ c. kind_words c.cell.kind c.cell.hi (value_at s c.name c.cell)) cells
 
 -- TELLING

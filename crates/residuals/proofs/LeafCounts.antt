@@ -2,7 +2,7 @@
 use Rattle.std.proofs.Common.{ℕ, suc, ◌+◌, ◌≤◌, Bool, true, false, cond, List, [], ◌∷◌, length, ap, arith}
 use Rattle.std.specs.Prelude.{filter, filter_map}
 use Rattle.std.specs.List.{cons_option}
-use Rattle.token_system.specs.Stores.{Valuation}
+use Rattle.token_system.specs.Stores.{StoreMap}
 use Rattle.agent_core.specs.declared.node.Closure.{Closure}
 use Rattle.agent_core.specs.Agents.{Agent, Skip, Tell, Then, Else, Par, New, Hence, Next, agent_at}
 use Rattle.agent_core.specs.Programs.{CoreProgram}
@@ -33,7 +33,7 @@ both-few (l ∷ ls) = go l.kind (both-few ls)
     go (StartsHence c) h = omega arith
     go (StartsNext c) h = omega arith
 
-pub started-few : (net : Flat) (w : Valuation) → IsSmall net → length (started_by next_body net w) + length (started_by hence_body net w) ≤ 65536
+pub started-few : (net : Flat) (w : StoreMap) → IsSmall net → length (started_by next_body net w) + length (started_by hence_body net w) ≤ 65536
 started-few net w small =
     let h = both-few (filter (runs w) (net_leaves net)) in
     let g = filter-few (runs w) (net_leaves net) in

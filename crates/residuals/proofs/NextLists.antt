@@ -2,7 +2,7 @@
 use Rattle.std.proofs.Common.{◌≡◌, ℕ, not, List, ◌++◌, length, length-append, sym, ap, ◌∙◌, subst, arith}
 use Rattle.std.specs.Prelude.{filter, flat_map}
 use Rattle.std.proofs.lemmas.List.Elements.{filter-append}
-use Rattle.token_system.specs.Stores.{Valuation}
+use Rattle.token_system.specs.Stores.{StoreMap}
 use Rattle.token_system.proofs.Alike.{true_false}
 use Rattle.agent_core.specs.declared.node.Closure.{Closure}
 use Rattle.agent_core.specs.Programs.{CoreProgram}
@@ -32,7 +32,7 @@ net-of_roots p table rs t now net of is = record {
   roots = roots-own p rs now of;
 }
 
-module _ (p : CoreProgram) (table : List ℕ) (rs : List Closure) (t : ℕ) (net : Flat) (is : IsNetOf p table rs t net) (w : Valuation) (now : RootLists) (of : AreRootsOf p rs now) where
+module _ (p : CoreProgram) (table : List ℕ) (rs : List Closure) (t : ℕ) (net : Flat) (is : IsNetOf p table rs t net) (w : StoreMap) (now : RootLists) (of : AreRootsOf p rs now) where
   abbrev begun : List Closure
   begun = flat_map (starts p w t) rs
 
@@ -61,7 +61,7 @@ module _ (p : CoreProgram) (table : List ℕ) (rs : List Closure) (t : ℕ) (net
   }
 
 -- the next roots are the program's
-pub lists-follow : (net : Flat) (w : Valuation) (now : RootLists) → FollowRoots net w now (next_lists net w now)
+pub lists-follow : (net : Flat) (w : StoreMap) (now : RootLists) → FollowRoots net w now (next_lists net w now)
 lists-follow net w now p table closed of is =
     let same : IsNetOf p table (roots p closed) (length closed) net = subst (λ (cs : List Closure). IsNetOf p table cs (length closed) net) of.all is in
     subst (λ (cs : List Closure). AreRootsOf p cs (next_lists net w now)) (sym (roots-next p closed w is.program.tree))
@@ -75,7 +75,7 @@ apart-by p rs next of c i j =
     true_false (sym once ∙ ap not stay)
 
 -- what holds of each pair of lists holds of the next one
-pub lists-keep : (net : Flat) (w : Valuation) (now : RootLists) → IsNet net → IsNetOfRoots net now → AreRootLists (next_lists net w now)
+pub lists-keep : (net : Flat) (w : StoreMap) (now : RootLists) → IsNet net → IsNetOfRoots net now → AreRootLists (next_lists net w now)
 lists-keep net w now whole is = record {
   once = in_order (sorted (started_by next_body net w)) (sorted-ascending (started_by next_body net w));
   stay = in_order (sorted (now.stay ++ started_by hence_body net w)) (sorted-ascending (now.stay ++ started_by hence_body net w));

@@ -2,7 +2,7 @@
 use Rattle.std.proofs.Common.{◌≡◌, ℕ, Bool, ◌&&◌, not, List, [], ◌∷◌, length, map, sym, ap, ◌∙◌, refl}
 use Rattle.std.specs.Prelude.{filter}
 use Rattle.std.specs.List.{list_all}
-use Rattle.token_system.specs.Stores.{Valuation}
+use Rattle.token_system.specs.Stores.{StoreMap}
 use Rattle.agent_core.specs.declared.node.Closure.{Closure}
 use Rattle.agent_core.specs.Programs.{CoreProgram}
 use Rattle.agent_core.specs.Strata.{Each}
@@ -17,7 +17,7 @@ use Rattle.instant_net.specs.Programs.{guard_named, leaf_named}
 use Rattle.instant_net.proofs.NetRests.{LeafFits, entails-named, roots-fit}
 use Rattle.residuals.proofs.Passing.{passed-map, passed-agree}
 
-module _ (p : CoreProgram) (w : Valuation) where
+module _ (p : CoreProgram) (w : StoreMap) where
   allows-named : (g : core.Guard) → GuardFits p g → allows w (guard_named p g) ≡ core.allows p w g
   allows-named (core.Positive b c) f = entails-named p b c w f
   allows-named (core.Negative b c) f = ap not (entails-named p b c w f)
@@ -28,7 +28,7 @@ module _ (p : CoreProgram) (w : Valuation) where
       ap (λ (r : Bool). r && list_all (allows w) (map (guard_named p) path)) (allows-named g f.0) ∙ ap (λ (r : Bool). core.allows p w g && r) (path-named path f.1)
 
 -- of the leaves of a net as many run as of those of its roots
-pub net-ran : (p : CoreProgram) (table : List ℕ) (rs : List Closure) (t : ℕ) (net : Flat) → IsNetOf p table rs t net → (w : Valuation)
+pub net-ran : (p : CoreProgram) (table : List ℕ) (rs : List Closure) (t : ℕ) (net : Flat) → IsNetOf p table rs t net → (w : StoreMap)
     → length (filter (λ (l : NetLeaf). runs w (named_leaf net l)) net.leaves) ≡ core.ran p rs t w
 net-ran p table rs t net is w =
     sym (passed-map (named_leaf net) (runs w) net.leaves)

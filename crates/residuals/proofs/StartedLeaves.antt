@@ -6,7 +6,7 @@ use Rattle.std.proofs.lemmas.List.{map-append}
 use Rattle.std.proofs.lemmas.List.Elements.{filter-append, filter_map-append}
 use Rattle.std.proofs.lemmas.List.Folds.{list_all-append}
 use Rattle.std.proofs.Math.Bool.{and-true}
-use Rattle.token_system.specs.Stores.{Valuation}
+use Rattle.token_system.specs.Stores.{StoreMap}
 use Rattle.agent_core.specs.declared.node.Closure.{Closure}
 use Rattle.agent_core.specs.declared.node.Node.{Node}
 use Rattle.agent_core.specs.Agents.{Agent, Skip, Tell, Then, Else, Par, New, Hence, Next, agent_at}
@@ -59,12 +59,12 @@ selects_next p = record {
   next = λ n b a e. sym (ap (λ (x : Agent). kept (not (is_hence x)) (closure (suc n) b)) e);
 }
 
-pub started_of-append : (body : Kind → Option Closure) (w : Valuation) (xs ys : List Leaf) → started_of body (xs ++ ys) w ≡ started_of body xs w ++ started_of body ys w
+pub started_of-append : (body : Kind → Option Closure) (w : StoreMap) (xs ys : List Leaf) → started_of body (xs ++ ys) w ≡ started_of body xs w ++ started_of body ys w
 started_of-append body w xs ys =
     ap (filter_map (λ l. body l.kind)) (filter-append (runs w) xs ys) ∙ filter_map-append (λ l. body l.kind) (filter (runs w) xs) (filter (runs w) ys)
 
 -- what one leaf starts
-pub started_of-one : (body : Kind → Option Closure) (w : Valuation) (l : Leaf) (o : Option Closure) → body l.kind ≡ o → started_of body (l ∷ []) w ≡ cond (runs w l) (cons_option o []) []
+pub started_of-one : (body : Kind → Option Closure) (w : StoreMap) (l : Leaf) (o : Option Closure) → body l.kind ≡ o → started_of body (l ∷ []) w ≡ cond (runs w l) (cons_option o []) []
 started_of-one body w l o e = go (runs w l)
   where
     go : (b : Bool) → filter_map (λ (l : Leaf). body l.kind) (cond b (l ∷ []) []) ≡ cond b (cons_option o []) []
@@ -94,7 +94,7 @@ module _ (S : Closure → Bool) where
 
 -- LEAVES
 
-module _ (p : CoreProgram) (w : Valuation) (t : ℕ) (S : Closure → Bool) (body : Kind → Option Closure) (selects : Selects p S body) where
+module _ (p : CoreProgram) (w : StoreMap) (t : ℕ) (S : Closure → Bool) (body : Kind → Option Closure) (selects : Selects p S body) where
   -- whether the store allows the guards
   abbrev is_open : List core.Guard → Bool
   is_open path = list_all (allows w) (map (guard_named p) path)
@@ -151,7 +151,7 @@ module _ (p : CoreProgram) (w : Valuation) (t : ℕ) (S : Closure → Bool) (bod
       ∙ sym (filter-append S (starts p w t r) (flat_map (starts p w t) rs))
 
 -- what the leaves of a net start is what its roots start: the bodies of hences, and those of nexts
-module _ (p : CoreProgram) (table : List ℕ) (rs : List Closure) (t : ℕ) (net : Flat) (is : IsNetOf p table rs t net) (w : Valuation) where
+module _ (p : CoreProgram) (table : List ℕ) (rs : List Closure) (t : ℕ) (net : Flat) (is : IsNetOf p table rs t net) (w : StoreMap) where
   pub hence-started : started_by hence_body net w ≡ filter (stays p) (flat_map (starts p w t) rs)
   hence-started =
       ap (λ (ls : List Leaf). started_of hence_body ls w) is.leaves

@@ -4,7 +4,7 @@ use Rattle.std.specs.Prelude.{Option, slice_get}
 use Rattle.std.specs.List.{cons_option}
 use Rattle.std.proofs.lemmas.List.{map-append, append-nil, take_all, take_more}
 use Rattle.std.proofs.lemmas.Option.{slice_get_within, get_or_from_slice_get, slice_get_cases}
-use Rattle.token_system.specs.Stores.{Valuation}
+use Rattle.token_system.specs.Stores.{StoreMap}
 use Rattle.agent_core.specs.declared.node.Closure.{Closure}
 use Rattle.agent_core.specs.Closures.{sorted}
 use Rattle.instant_net.specs.declared.parts.NetLeaf.{NetLeaf}
@@ -17,7 +17,7 @@ use Rattle.residuals.specs.RootLists.{RootLists}
 use Rattle.residuals.specs.NextRoots.{hence_body, next_body, started_of, next_lists}
 use Rattle.residuals.proofs.StartedLeaves.{started_of-append, started_of-one}
 
-module _ (net : Flat) (w : Valuation) where
+module _ (net : Flat) (w : StoreMap) where
   -- what the first i leaves start
   abbrev pub begun : (Kind → Option Closure) → ℕ → List Closure
   begun body i = started_of body (map (named_leaf net) (take i net.leaves)) w

@@ -1,5 +1,5 @@
 ghost use Rattle.std.specs.Prelude.{◌≡◌, ℕ, List, ◌+◌, IfOk, length};
-ghost use Rattle.token_system.specs.Stores.{Valuation};
+ghost use Rattle.token_system.specs.Stores.{StoreMap};
 ghost use Rattle.agent_core.specs.Closures as closures;
 ghost use Rattle.agent_core.specs.WellFormed.{IsWellFormed};
 ghost use Rattle.instant_net.specs.Opened.{IsNetOf};
@@ -60,7 +60,7 @@ fn net_at(
 ) -> Result<Net, Fail>
     requires program { IsWellFormed program.now }
     requires levels { length levels.now ≡ length program.now.cells }
-    requires roots { (closed : List Valuation) × (length closed ≡ t) × AreRootsOf program.now (closures.roots program.now closed) roots.now }
+    requires roots { (closed : List StoreMap) × (length closed ≡ t) × AreRootsOf program.now (closures.roots program.now closed) roots.now }
     ensures { IfOk result (IsNetOf program.now levels.now (listed roots.now) t) }
 {
     let list = roots.list(alloc)?;
@@ -80,8 +80,8 @@ fn after(
 ) -> Result<Roots, Fail>
     requires program { IsWellFormed program.now }
     requires levels { length levels.now ≡ length program.now.cells }
-    requires roots { (closed : List Valuation) × (length closed ≡ t) × AreRootsOf program.now (closures.roots program.now closed) roots.now }
-    ensures { IfOk result (λ next. (closed : List Valuation) × (length closed ≡ t + 1) × AreRootsOf program.now (closures.roots program.now closed) next) }
+    requires roots { (closed : List StoreMap) × (length closed ≡ t) × AreRootsOf program.now (closures.roots program.now closed) roots.now }
+    ensures { IfOk result (λ next. (closed : List StoreMap) × (length closed ≡ t + 1) × AreRootsOf program.now (closures.roots program.now closed) next) }
 {
     let net = net_at(alloc, program, levels, roots, t)?;
     let words = open_words(alloc, &net, &Store::new(alloc))?;

@@ -3,7 +3,7 @@ use Rattle.std.proofs.Common.{◌≡◌, ◌⊎◌, inl, inr, ℕ, zero, suc, �
 use Rattle.std.specs.Prelude.{slice_get}
 use Rattle.std.proofs.lemmas.List.Elements.{All-push}
 use Rattle.std.proofs.lemmas.Option.{slice_get_within}
-use Rattle.token_system.specs.Stores.{Valuation}
+use Rattle.token_system.specs.Stores.{StoreMap}
 use Rattle.agent_core.specs.declared.node.Closure.{Closure}
 use Rattle.agent_core.specs.Stores.{IsInput}
 use Rattle.agent_core.specs.Outputs.{IsOutput}
@@ -37,14 +37,14 @@ each-push {X} {Y} R xs ys x y long each last n a b ea eb = go (get-append xs (x 
     go (inr e) (inl f) = absurd (let k = slice_get_within ys n b f in let m = e.1 in omega arith)
     go (inr e) (inr f) = subst (λ (c : X). R c b) (alone x e.0 a e.2) (subst (λ (c : Y). R x c) (alone y f.0 b f.2) last)
 
-parts-push : (wholes parts : List Valuation) (w part : Valuation) → AreDeclaredParts wholes parts → IsDeclaredPart w part → AreDeclaredParts (wholes ++ w ∷ []) (parts ++ part ∷ [])
+parts-push : (wholes parts : List StoreMap) (w part : StoreMap) → AreDeclaredParts wholes parts → IsDeclaredPart w part → AreDeclaredParts (wholes ++ w ∷ []) (parts ++ part ∷ [])
 parts-push wholes parts w part are is = record {
   long = let l = are.long in omega (arith, length-append parts (part ∷ []), length-append wholes (w ∷ []));
   each = each-push IsDeclaredPart wholes parts w part are.long are.each is;
 }
 
 -- the book with one instant more
-abbrev pub closed_book : BookView → Valuation → Valuation → RootLists → BookView
+abbrev pub closed_book : BookView → StoreMap → StoreMap → RootLists → BookView
 closed_book b input part next = record {
   program = b.program;
   levels = b.levels;
@@ -54,33 +54,33 @@ closed_book b input part next = record {
 }
 
 -- where a book is seen as v, one with these parts is that book with one instant more
-pub closed_book-seen : (v b : BookView) → v ≡ b → (input part : Valuation) (next : RootLists)
-    → (ins outs : List Valuation) (roots : RootLists) → ins ≡ v.ins ++ input ∷ [] → outs ≡ v.outs ++ part ∷ [] → roots ≡ next
+pub closed_book-seen : (v b : BookView) → v ≡ b → (input part : StoreMap) (next : RootLists)
+    → (ins outs : List StoreMap) (roots : RootLists) → ins ≡ v.ins ++ input ∷ [] → outs ≡ v.outs ++ part ∷ [] → roots ≡ next
     → record { program = v.program; levels = v.levels; ins = ins; outs = outs; roots = roots } ≡ closed_book b input part next
 closed_book-seen v b same input part next ins outs roots e f g =
-    ap (λ (xs : List Valuation). record (closed_book v input part next) { ins = xs; outs = outs; roots = roots }) e
-    ∙ ap (λ (xs : List Valuation). record (closed_book v input part next) { outs = xs; roots = roots }) f
+    ap (λ (xs : List StoreMap). record (closed_book v input part next) { ins = xs; outs = outs; roots = roots }) e
+    ∙ ap (λ (xs : List StoreMap). record (closed_book v input part next) { outs = xs; roots = roots }) f
     ∙ ap (closed_book v input part) g
     ∙ ap (λ (x : BookView). closed_book x input part next) same
 
 -- what closing an instant on this input with this output comes to
-pub record Closes (before after : BookView) (input w : Valuation) : Type 0 where
+pub record Closes (before after : BookView) (input w : StoreMap) : Type 0 where
   pub book : IsBook after
   pub closed : IsClosed before after input w
-  pub keeps : (full : List Valuation) → Keeps before full → Keeps after (full ++ w ∷ [])
+  pub keeps : (full : List StoreMap) → Keeps before full → Keeps after (full ++ w ∷ [])
 
 module _ (b : BookView) (is : IsBook b) (laws : NetsHaveRootOutputs) (net : Flat) (of : IsNetOf b.program b.levels (listed b.roots) (length b.ins) net)
-    (input w part : Valuation) (given : IsInput b.program input) (out : net_outputs.IsOutput net input w) (declared : IsDeclaredPart w part)
+    (input w part : StoreMap) (given : IsInput b.program input) (out : net_outputs.IsOutput net input w) (declared : IsDeclaredPart w part)
     (next : RootLists) (follow : FollowRoots net w b.roots next) where
   -- what the net comes to is the program's output behind the run
-  output_behind : (full : List Valuation) → Keeps b full → IsOutput b.program full input w
+  output_behind : (full : List StoreMap) → Keeps b full → IsOutput b.program full input w
   output_behind full keeps =
       let of_roots : IsOutputOf b.program (listed b.roots) (length b.ins) input w = (laws b.program b.levels (listed b.roots) (length b.ins) net of input w given).0 out in
       output-of_roots b.program is.program full input w
       (subst (λ (rs : List Closure). IsOutputOf b.program rs (length full) input w) keeps.roots.all
       (subst (λ (t : ℕ). IsOutputOf b.program (listed b.roots) t input w) (sym keeps.run.whole) of_roots))
 
-  keeps-more : (full : List Valuation) → Keeps b full → Keeps (closed_book b input part next) (full ++ w ∷ [])
+  keeps-more : (full : List StoreMap) → Keeps b full → Keeps (closed_book b input part next) (full ++ w ∷ [])
   keeps-more full keeps = record {
     run = run-push b.program b.ins full input w keeps.run (output_behind full keeps);
     declared = parts-push full b.outs w part keeps.declared declared;

@@ -1,6 +1,6 @@
 -- What the net of a stratified program's roots is settled to is its output.
 use Rattle.std.proofs.Common.{◌≡◌, ℕ, List, sym, subst, arith}
-use Rattle.token_system.specs.Stores.{Valuation}
+use Rattle.token_system.specs.Stores.{StoreMap}
 use Rattle.agent_core.specs.declared.node.Closure.{Closure}
 use Rattle.agent_core.specs.Programs.{CoreProgram}
 use Rattle.agent_core.specs.Stores.{IsInput}
@@ -15,8 +15,8 @@ use Rattle.settle.specs.Ways.{IsOnWay}
 
 module _ (one : RootsHaveOneOutput) (stratified : NetsAreStratified) (outs : NetsHaveRootOutputs)
     (p : CoreProgram) (table : List ℕ) (strat : Stratifies p table) (rs : List Closure) (t : ℕ) (flat : Flat) (of : IsNetOf p table rs t flat)
-    (i : Valuation) (input : IsInput p i) where
-  abbrev output : Valuation
+    (i : StoreMap) (input : IsInput p i) where
+  abbrev output : StoreMap
   output = (one p table of.program strat rs of.roots t i input.store).0
 
   is_output : IsOutputOf p rs t i output
@@ -29,8 +29,8 @@ module _ (one : RootsHaveOneOutput) (stratified : NetsAreStratified) (outs : Net
   given_net = net_output.given
 
   -- from words of the input
-  pub settled_net : (before after : Valuation) → before ≡ i
-      → ((input output : Valuation) → net.IsStratified flat → net.IsOutput flat input output → IsOnWay flat input output 0 before → after ≡ output)
+  pub settled_net : (before after : StoreMap) → before ≡ i
+      → ((input output : StoreMap) → net.IsStratified flat → net.IsOutput flat input output → IsOnWay flat input output 0 before → after ≡ output)
       → net.IsOutput flat i after
   settled_net before after same settled =
       let way : IsOnWay flat i output 0 i = record {

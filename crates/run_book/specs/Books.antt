@@ -1,6 +1,6 @@
 -- The book of a run: what is kept of it from instant to instant. This project's own.
 use Rattle.std.specs.Prelude.{◌≡◌, ℕ, ◌≤◌, List, [], ◌∷◌, ◌++◌, length, All}
-use Rattle.token_system.specs.Stores.{Valuation}
+use Rattle.token_system.specs.Stores.{StoreMap}
 use Rattle.agent_core.specs.Programs.{CoreProgram}
 use Rattle.agent_core.specs.WellFormed.{IsWellFormed}
 use Rattle.agent_core.specs.Stores.{IsInput}
@@ -14,12 +14,12 @@ use Rattle.run_book.specs.DeclaredParts.{IsDeclaredPart, AreDeclaredParts}
 pub record BookView : Type 0 where
   pub program : CoreProgram
   pub levels : List ℕ
-  pub ins : List Valuation
-  pub outs : List Valuation
+  pub ins : List StoreMap
+  pub outs : List StoreMap
   pub roots : RootLists
 
 -- the book keeps this run of its program: the run's inputs, the declared parts of its outputs, and the roots that these outputs leave
-pub record Keeps (b : BookView) (full : List Valuation) : Type 0 where
+pub record Keeps (b : BookView) (full : List StoreMap) : Type 0 where
   pub run : IsRun b.program b.ins full
   pub declared : AreDeclaredParts full b.outs
   pub roots : AreRootsOf b.program (closures.roots b.program full) b.roots
@@ -30,14 +30,14 @@ pub record IsBook (b : BookView) : Type 0 where
   pub stratified : Stratifies b.program b.levels
   pub inputs : All (IsInput b.program) b.ins
   pub few : length b.ins ≤ 65536
-  pub full : List Valuation
+  pub full : List StoreMap
   pub keeps : Keeps b full
 
 -- one more instant was closed, with this input and this output
-pub record IsClosed (before after : BookView) (input output : Valuation) : Type 0 where
+pub record IsClosed (before after : BookView) (input output : StoreMap) : Type 0 where
   pub program : after.program ≡ before.program
   pub levels : after.levels ≡ before.levels
   pub ins : after.ins ≡ before.ins ++ input ∷ []
-  pub part : Valuation
+  pub part : StoreMap
   pub declared : IsDeclaredPart output part
   pub outs : after.outs ≡ before.outs ++ part ∷ []

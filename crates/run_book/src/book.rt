@@ -1,6 +1,6 @@
 //! What is kept of a run from instant to instant.
 ghost use Rattle.std.specs.Prelude.{◌≡◌, ◌∷◌, ◌++◌, ◌<◌, [], List, length, if◌then◌else◌, is_ok, IfOk, OnErr, OnOk};
-ghost use Rattle.token_system.specs.Stores.{Valuation};
+ghost use Rattle.token_system.specs.Stores.{StoreMap};
 ghost use Rattle.agent_core.specs.Closures.{closure};
 ghost use Rattle.agent_core.specs.Stores.{IsInput};
 ghost use Rattle.agent_core.specs.Strata.{Stratifies};
@@ -119,7 +119,7 @@ impl Book {
         requires words { AreWords net.now.cells words.now }
         requires output { IsOutput net.now input (store_in net.now.cells words.now) }
         ensures closed { OnOk result (IsClosed self.old self.new input (store_in net.now.cells words.now)) }
-        ensures keeps { OnOk result ((full : List Valuation) → Keeps self.old full → Keeps self.new (full ++ store_in net.now.cells words.now ∷ [])) }
+        ensures keeps { OnOk result ((full : List StoreMap) → Keeps self.old full → Keeps self.new (full ++ store_in net.now.cells words.now ∷ [])) }
         ensures unchanged { OnErr result (self.new ≡ self.old) }
     {
         net_outputs_law();

@@ -1,7 +1,7 @@
 -- The counts of a net's guards, guard by guard.
 use Rattle.std.proofs.Common.{◌≡◌, ℕ, ◌+◌, ◌<◌, ◌≤◌, Bool, true, false, ◌&&◌, cond, List, length, Some, sym, ap, ◌∙◌, arith}
 use Rattle.std.specs.Prelude.{slice_get}
-use Rattle.token_system.specs.Stores.{Valuation}
+use Rattle.token_system.specs.Stores.{StoreMap}
 use Rattle.agent_core.specs.declared.node.Closure.{Closure}
 use Rattle.agent_core.specs.Programs.{CoreProgram}
 use Rattle.instant_net.specs.declared.parts.NetGuard.{NetGuard}
@@ -14,7 +14,7 @@ use Rattle.run_report.specs.declared.counts.Report.{Report}
 use Rattle.run_report.specs.Reports.{report_of}
 use Rattle.run_report.proofs.Occurrences.{Way, confirmed_way, refuted_way, parked_way, counts, net-confirmed, net-refuted, net-parked}
 
-module _ (net : Flat) (w : Valuation) where
+module _ (net : Flat) (w : StoreMap) where
   -- the guard is reached and fares so
   abbrev pub is_counted : Way → NetGuard → Bool
   is_counted way g = counts way w (named_occurrence net g)

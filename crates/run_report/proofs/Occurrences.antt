@@ -1,7 +1,7 @@
 -- A store reaches the guards of a net, and entails them, as it does the thens and elses of the roots.
 use Rattle.std.proofs.Common.{◌≡◌, ℕ, Bool, ◌&&◌, not, List, [], ◌∷◌, ◌++◌, length, refl, sym, ap, ◌∙◌}
 use Rattle.std.specs.Prelude.{filter}
-use Rattle.token_system.specs.Stores.{Valuation}
+use Rattle.token_system.specs.Stores.{StoreMap}
 use Rattle.agent_core.specs.declared.node.Closure.{Closure}
 use Rattle.agent_core.specs.Agents.{Agent, Skip, Tell, Then, Else, Par, New, Hence, Next, agent_at}
 use Rattle.agent_core.specs.Programs.{CoreProgram}
@@ -63,16 +63,16 @@ abbrev pub parked_way : Way
 parked_way is_else entailed = not is_else && not entailed
 
 -- the guard fares so
-abbrev pub fares : Way → Valuation → Guard → Bool
+abbrev pub fares : Way → StoreMap → Guard → Bool
 fares way w g = way g.strict (entails w g.ask)
 
 -- the guard is reached and fares so
-abbrev pub counts : Way → Valuation → Occurrence Guard → Bool
+abbrev pub counts : Way → StoreMap → Occurrence Guard → Bool
 counts way w o = reaches w o && fares way w o.guard
 
-module _ (p : CoreProgram) (w : Valuation) where
+module _ (p : CoreProgram) (w : StoreMap) where
   -- the way is that of the test
-  abbrev IsWayOf : Way → (CoreProgram → Valuation → core.Guard → Bool) → Type 0
+  abbrev IsWayOf : Way → (CoreProgram → StoreMap → core.Guard → Bool) → Type 0
   IsWayOf way test = (g : core.Guard) → GuardFits p g → fares way w (guard_named p g) ≡ test p w g
 
   confirmed-is : IsWayOf confirmed_way is_confirmed
@@ -87,13 +87,13 @@ module _ (p : CoreProgram) (w : Valuation) where
   parked-is (core.Positive b c) f = ap not (entails-named p b c w f)
   parked-is (core.Negative b c) f = refl
 
-  counts-named : (way : Way) (test : CoreProgram → Valuation → core.Guard → Bool) → IsWayOf way test → (o : Occurrence core.Guard) → OccurrenceFits p o
+  counts-named : (way : Way) (test : CoreProgram → StoreMap → core.Guard → Bool) → IsWayOf way test → (o : Occurrence core.Guard) → OccurrenceFits p o
       → counts way w (occurrence_named p o) ≡ (reports.reaches p w o && test p w o.guard)
   counts-named way test same o f =
       ap (λ (r : Bool). r && fares way w (guard_named p o.guard)) (path-named p w o.path f.1) ∙ ap (λ (r : Bool). reports.reaches p w o && r) (same o.guard f.0)
 
   module _ (table : List ℕ) (rs : List Closure) (t : ℕ) (net : Flat) (is : IsNetOf p table rs t net) where
-    net-counts : (way : Way) (test : CoreProgram → Valuation → core.Guard → Bool) → IsWayOf way test
+    net-counts : (way : Way) (test : CoreProgram → StoreMap → core.Guard → Bool) → IsWayOf way test
         → length (filter (λ (g : NetGuard). counts way w (named_occurrence net g)) net.guards) ≡ reached_of test p rs t w
     net-counts way test same =
         sym (passed-map (named_occurrence net) (counts way w) net.guards)

@@ -1,5 +1,5 @@
 ghost use Rattle.std.specs.Prelude.{◌≡◌, List, ◌+◌, ◌≤◌, IfOk, length};
-ghost use Rattle.token_system.specs.Stores.{Valuation};
+ghost use Rattle.token_system.specs.Stores.{StoreMap};
 ghost use Rattle.agent_core.specs.Closures as closures;
 ghost use Rattle.agent_core.specs.WellFormed.{IsWellFormed};
 ghost use Rattle.instant_net.specs.Words.{AreWords};
@@ -74,8 +74,8 @@ fn report_after(
 ) -> Result<(Report, Roots), Fail>
     requires program { IsWellFormed program.now }
     requires levels { length levels.now ≡ length program.now.cells }
-    requires roots { (closed : List Valuation) × (length closed ≡ t) × AreRootsOf program.now (closures.roots program.now closed) roots.now }
-    ensures { IfOk result (λ next. (closed : List Valuation) × (length closed ≡ t + 1) × AreRootsOf program.now (closures.roots program.now closed) next.1) }
+    requires roots { (closed : List StoreMap) × (length closed ≡ t) × AreRootsOf program.now (closures.roots program.now closed) roots.now }
+    ensures { IfOk result (λ next. (closed : List StoreMap) × (length closed ≡ t + 1) × AreRootsOf program.now (closures.roots program.now closed) next.1) }
 {
     let list = roots.list(alloc)?;
     let net = match open_net(alloc, program, levels, &list, t, 100) {

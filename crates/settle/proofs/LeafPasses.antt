@@ -3,7 +3,7 @@ use Rattle.std.proofs.Common.{◌≡◌, ◌⊎◌, inl, inr, ℕ, zero, suc, �
 use Rattle.std.specs.Prelude.{Option, IsTrue, All, slice_get, nat_lt}
 use Rattle.std.proofs.lemmas.Bool.Decides.{nat_tests}
 use Rattle.std.proofs.lemmas.Option.{slice_get_cases, slice_get_within}
-use Rattle.token_system.specs.Stores.{Valuation}
+use Rattle.token_system.specs.Stores.{StoreMap}
 use Rattle.token_system.proofs.Alike.{true_false}
 use Rattle.agent_core.specs.Strata.{Each}
 use Rattle.agent_core.proofs.Bools.{first_of_both, second_of_both}
@@ -33,7 +33,7 @@ upto_test s k None h = inl refl
 upto_test s k (Some m) h = inr (grind (arith, nat_tests))
 
 -- a leaf that is not due has told, where its level is low enough and the store runs it
-not_due : (net : Flat) (k : ℕ) (w : Valuation) (l : NetLeaf) → is_due net k w l ≡ false → level_of net l ≤ k → IsTrue (runs w (named_leaf net l)) → IsTrue (has_told net w l)
+not_due : (net : Flat) (k : ℕ) (w : StoreMap) (l : NetLeaf) → is_due net k w l ≡ false → level_of net l ≤ k → IsTrue (runs w (named_leaf net l)) → IsTrue (has_told net w l)
 not_due net k w l h le run = go (atoms_of l.kind) h le
   where
     all_but : (a b c : Bool) → (a && (b && not c)) ≡ false → IsTrue a → IsTrue b → IsTrue c
@@ -52,10 +52,10 @@ not_due net k w l h le run = go (atoms_of l.kind) h le
 
 -- HOW MANY LEAVES ARE LEFT
 
-abbrev Rises : Flat → Valuation → Valuation → NetLeaf → Type 0
+abbrev Rises : Flat → StoreMap → StoreMap → NetLeaf → Type 0
 Rises net u w l = IsTrue (has_told net u l) → IsTrue (has_told net w l)
 
-untold-le : (net : Flat) (u w : Valuation) (ls : List NetLeaf) → Each (Rises net u w) ls → untold net w ls ≤ untold net u ls
+untold-le : (net : Flat) (u w : StoreMap) (ls : List NetLeaf) → Each (Rises net u w) ls → untold net w ls ≤ untold net u ls
 untold-le net u w [] h = omega arith
 untold-le net u w (l ∷ ls) h = let ih = untold-le net u w ls h.1 in go (has_told net u l) (has_told net w l) h.0 ih
   where
@@ -65,7 +65,7 @@ untold-le net u w (l ∷ ls) h = let ih = untold-le net u w ls h.1 in go (has_to
     go false true f le = omega arith
     go false false f le = omega arith
 
-untold-less : (net : Flat) (u w : Valuation) (ls : List NetLeaf) (n : ℕ) (l : NetLeaf) → Each (Rises net u w) ls → slice_get ls n ≡ Some l → has_told net u l ≡ false → has_told net w l ≡ true → untold net w ls + 1 ≤ untold net u ls
+untold-less : (net : Flat) (u w : StoreMap) (ls : List NetLeaf) (n : ℕ) (l : NetLeaf) → Each (Rises net u w) ls → slice_get ls n ≡ Some l → has_told net u l ≡ false → has_told net w l ≡ true → untold net w ls + 1 ≤ untold net u ls
 untold-less net u w [] n l h at e f = absurd (cc)
 untold-less net u w (x ∷ ls) zero l h at e f =
     let same : x ≡ l = cc in
@@ -89,7 +89,7 @@ module _ (net : Flat) (is : IsNet net) where
   leaf-fits n l at = named-fits net.cells (atoms_of l.kind) (all_each (AtomFits net.cells) (atoms_of l.kind) (each_at (LeafIsWhole net) net.leaves n l (all_each (LeafIsWhole net) net.leaves is.of.whole.leaves) at).0)
 
   -- telling what one leaf tells leaves fewer
-  told-fewer : (w : Valuation) (n : ℕ) (l : NetLeaf) → IsStoreOf net.cells w → slice_get net.leaves n ≡ Some l → has_told net w l ≡ false → untold net (tell_named (tells net l) w) net.leaves + 1 ≤ untold net w net.leaves
+  told-fewer : (w : StoreMap) (n : ℕ) (l : NetLeaf) → IsStoreOf net.cells w → slice_get net.leaves n ≡ Some l → has_told net w l ≡ false → untold net (tell_named (tells net l) w) net.leaves + 1 ≤ untold net w net.leaves
   told-fewer w n l iw at e =
       let after = tell-all net is (tells net l) w (leaf-fits n l at) iw in
       untold-less net w (tell_named (tells net l) w) net.leaves n l
@@ -126,7 +126,7 @@ module _ (net : Flat) (k : ℕ) (before now : List ℕ) (i : ℕ) (told : Bool) 
     where
       found : (l : NetLeaf) → slice_get net.leaves i ≡ Some l → IsPass net k before after (i + 1) true
       found l at =
-          let w : Valuation = store_in net.cells now in
+          let w : StoreMap = store_in net.cells now in
           let iw = words-store net is now p.words in
           let same : store_in net.cells after ≡ tell_named (tells net l) w = store ∙ ap (λ o. tell_named (named net.cells (tells_of o)) w) at in
           let now_due : IsTrue (is_due net k w l) = sym (due l at) ∙ e in

@@ -4,7 +4,7 @@ use Rattle.std.specs.Prelude.{Option, IsTrue, Contains, slice_get, slice_index, 
 use Rattle.std.specs.List.{list_all}
 use Rattle.std.proofs.lemmas.Option.{slice_get_cases}
 use Rattle.std.proofs.lemmas.List.Elements.{All-contains}
-use Rattle.token_system.specs.Stores.{Valuation}
+use Rattle.token_system.specs.Stores.{StoreMap}
 use Rattle.agent_core.specs.Strata.{Each}
 use Rattle.agent_core.proofs.Bools.{both, first_of_both, second_of_both}
 use Rattle.agent_core.proofs.OneStore.{Below-antisym}
@@ -114,7 +114,7 @@ pub record LeafStands (net : Flat) (l : NetLeaf) : Type 0 where
   pub least : Each (λ x. (f : NamedFits net.cells x) × (level_of net l ≤ f.cell.stratum)) (tells net l)
   pub path : Each (GuardUnder net.cells (level_of net l)) (named_leaf net l).path
 
-module _ (cells : List NetCell) (k level : ℕ) (u w : Valuation) (upto : BelowUpto cells k u w) where
+module _ (cells : List NetCell) (k level : ℕ) (u w : StoreMap) (upto : BelowUpto cells k u w) where
   up_to : (strict : Bool) (xs : List Named) → (strict ≡ true → level ≤ k) → (strict ≡ false → level < k) → Each (NamedUnder cells level strict) xs → Each (λ x. IsTrue (holds u x) → IsTrue (holds w x)) xs
   up_to strict [] s n h = tt
   up_to strict (x ∷ xs) s n h = (holds-up cells u w x h.0.0 (λ t fits. upto h.0.0.cell t h.0.0.there (lt strict s n h.0.1) fits), up_to strict xs s n h.1)
@@ -145,7 +145,7 @@ module _ (cells : List NetCell) (k level : ℕ) (u w : Valuation) (upto : BelowU
           (entails-up u w g.ask (up_to true g.ask (λ s. le) (λ s. absurd (cc)) (subst (λ (b : Bool). Each (NamedUnder cells level b) g.ask) e h.0))) x
 
 -- of a list that the store entails, each
-held : (w : Valuation) (P : Type 0) (xs : List Named) → (P → IsTrue (entails w xs)) → Each (λ x. P → IsTrue (holds w x)) xs
+held : (w : StoreMap) (P : Type 0) (xs : List Named) → (P → IsTrue (entails w xs)) → Each (λ x. P → IsTrue (holds w x)) xs
 held w P [] h = tt
 held w P (x ∷ xs) h = (λ b. first_of_both (holds w x) (entails w xs) (h b), held w P xs (λ b. second_of_both (holds w x) (entails w xs) (h b)))
 
@@ -167,7 +167,7 @@ module _ (net : Flat) (is : IsNet net) where
       let b = is.of.strata in
       omega arith
 
-  pub of_upto : (u w : Valuation) → ((k : ℕ) → BelowUpto net.cells k u w) → Below net.cells u w
+  pub of_upto : (u w : StoreMap) → ((k : ℕ) → BelowUpto net.cells k u w) → Below net.cells u w
   of_upto u w h c t at = h (suc c.stratum) c t at (omega arith)
 
   module _ (strat : IsStratified net) where
@@ -227,7 +227,7 @@ module _ (net : Flat) (is : IsNet net) where
         path = path-each net.cells net.guards (λ k g s. (is.of.whole.guards k g s).1) (GuardUnder net.cells (level_of net l)) (length net.guards) l.last (leaf_whole n l at).1 (omega arith) guard
 
     -- stores that are below each other are one store
-    pub one-store : (u w : Valuation) → IsStoreOf net.cells u → IsStoreOf net.cells w → ((k : ℕ) → BelowUpto net.cells k u w) → ((k : ℕ) → BelowUpto net.cells k w u) → u ≡ w
+    pub one-store : (u w : StoreMap) → IsStoreOf net.cells u → IsStoreOf net.cells w → ((k : ℕ) → BelowUpto net.cells k u w) → ((k : ℕ) → BelowUpto net.cells k w u) → u ≡ w
     one-store u w iu iw a b =
         let up_u = outputs.store-up is.program is.table is.roots net.instant net is.of u iu in
         let up_w = outputs.store-up is.program is.table is.roots net.instant net is.of w iw in
@@ -236,7 +236,7 @@ module _ (net : Flat) (is : IsNet net) where
         (outputs.below-up is.program is.table is.roots net.instant net is.of w u iw up_u (of_upto w u b))
 
     -- what is told changes a stratum no more than needed
-    pub tell-upto : (l : NetLeaf) (k : ℕ) (u w : Valuation) → LeafStands net l → IsStoreOf net.cells u → IsStoreOf net.cells w → BelowUpto net.cells k u w → (level_of net l < k → IsTrue (entails w (tells net l)))
+    pub tell-upto : (l : NetLeaf) (k : ℕ) (u w : StoreMap) → LeafStands net l → IsStoreOf net.cells u → IsStoreOf net.cells w → BelowUpto net.cells k u w → (level_of net l < k → IsTrue (entails w (tells net l)))
         → BelowUpto net.cells k (tell_named (tells net l) u) w
     tell-upto l k u w f iu iw upto sat c t at lt = (tell-all net is (tells net l) u f.told iu).least w iw c at (λ t fits. upto c t at lt fits) (go (tells net l) f.least (held w (level_of net l < k) (tells net l) sat)) t
       where
@@ -252,7 +252,7 @@ module _ (net : Flat) (is : IsNet net) where
 
     abbrev pub system : System
     system = record {
-      Store = Valuation;
+      Store = StoreMap;
       Leaf = NetLeaf;
       IsStore = IsStoreOf net.cells;
       IsLeaf = LeafStands net;

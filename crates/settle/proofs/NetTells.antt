@@ -5,7 +5,7 @@ use Rattle.token_system.specs.declared.cell.Cell.{Cell}
 use Rattle.token_system.specs.declared.cell.Token.{Token}
 use Rattle.token_system.specs.declared.name.CellName.{CellName}
 use Rattle.token_system.specs.Tokens.{Fits}
-use Rattle.token_system.specs.Stores.{Valuation, store_entails, told, IsKeptFor}
+use Rattle.token_system.specs.Stores.{StoreMap, store_entails, after_tell, IsKeptFor}
 use Rattle.token_system.proofs.Telling.{get-told_other}
 use Rattle.agent_core.specs.declared.node.CellDecl.{CellDecl}
 use Rattle.agent_core.specs.Programs.{CoreProgram}
@@ -25,7 +25,7 @@ use Rattle.instant_net.proofs.NetOutputs as outputs
 use Rattle.instant_net.proofs.StoreLookups.{same_or_not}
 
 -- at one cell, w entails what u does
-abbrev pub BelowCell : Valuation → Valuation → NetCell → Type 0
+abbrev pub BelowCell : StoreMap → StoreMap → NetCell → Type 0
 BelowCell u w c = (t : Token) → Fits c.cell t → IsTrue (store_entails u c.name c.cell t) → IsTrue (store_entails w c.name c.cell t)
 
 -- the token is one of a cell of the net
@@ -35,29 +35,29 @@ pub record NamedFits (cells : List NetCell) (x : Named) : Type 0 where
   pub fits : Fits cell.cell x.token
   pub same : record { name = cell.name; cell = cell.cell; token = x.token } ≡ x
 
--- what a store is after a token of a named cell is told
-record TellsOne (cells : List NetCell) (u : Valuation) (n : CellName) (x : Cell) (t : Token) (after : Valuation) : Type 0 where
+-- what a store is after a token of a named cell is after_tell
+record TellsOne (cells : List NetCell) (u : StoreMap) (n : CellName) (x : Cell) (t : Token) (after : StoreMap) : Type 0 where
   store : IsStoreOf cells after
   above : Below cells u after
   entails : IsTrue (store_entails after n x t)
-  least : (y : Valuation) → IsStoreOf cells y → (d : NetCell) → Contains cells d → BelowCell u y d → (d.name ≡ n → IsTrue (store_entails y n x t)) → BelowCell after y d
+  least : (y : StoreMap) → IsStoreOf cells y → (d : NetCell) → Contains cells d → BelowCell u y d → (d.name ≡ n → IsTrue (store_entails y n x t)) → BelowCell after y d
 
--- and after these are told
-pub record TellsAll (cells : List NetCell) (u : Valuation) (xs : List Named) (after : Valuation) : Type 0 where
+-- and after these are after_tell
+pub record TellsAll (cells : List NetCell) (u : StoreMap) (xs : List Named) (after : StoreMap) : Type 0 where
   pub store : IsStoreOf cells after
   pub above : Below cells u after
   pub entails : IsTrue (entails after xs)
-  pub least : (y : Valuation) → IsStoreOf cells y → (d : NetCell) → Contains cells d → BelowCell u y d → Each (λ x. d.name ≡ x.name → IsTrue (holds y x)) xs → BelowCell after y d
+  pub least : (y : StoreMap) → IsStoreOf cells y → (d : NetCell) → Contains cells d → BelowCell u y d → Each (λ x. d.name ≡ x.name → IsTrue (holds y x)) xs → BelowCell after y d
 
 -- a store that is above at the cell of the token entails it too
-pub holds-up : (cells : List NetCell) (u w : Valuation) (x : Named) (f : NamedFits cells x) → BelowCell u w f.cell → IsTrue (holds u x) → IsTrue (holds w x)
+pub holds-up : (cells : List NetCell) (u w : StoreMap) (x : Named) (f : NamedFits cells x) → BelowCell u w f.cell → IsTrue (holds u x) → IsTrue (holds w x)
 holds-up cells u w x f below = subst (λ (y : Named). IsTrue (holds u y) → IsTrue (holds w y)) f.same (below x.token f.fits)
 
-pub entails-up : (u w : Valuation) (xs : List Named) → Each (λ x. IsTrue (holds u x) → IsTrue (holds w x)) xs → IsTrue (entails u xs) → IsTrue (entails w xs)
+pub entails-up : (u w : StoreMap) (xs : List Named) → Each (λ x. IsTrue (holds u x) → IsTrue (holds w x)) xs → IsTrue (entails u xs) → IsTrue (entails w xs)
 entails-up u w [] f h = refl
 entails-up u w (x ∷ xs) f h = both _ _ (f.0 (first_of_both (holds u x) (entails u xs) h)) (entails-up u w xs f.1 (second_of_both (holds u x) (entails u xs) h))
 
-pub entails-above : (cells : List NetCell) (u w : Valuation) (xs : List Named) → Each (NamedFits cells) xs → Below cells u w → IsTrue (entails u xs) → IsTrue (entails w xs)
+pub entails-above : (cells : List NetCell) (u w : StoreMap) (xs : List Named) → Each (NamedFits cells) xs → Below cells u w → IsTrue (entails u xs) → IsTrue (entails w xs)
 entails-above cells u w xs fits below = entails-up u w xs (go xs fits)
   where
     go : (xs : List Named) → Each (NamedFits cells) xs → Each (λ x. IsTrue (holds u x) → IsTrue (holds w x)) xs
@@ -81,31 +81,31 @@ module _ (net : Flat) (is : IsNet net) where
   abbrev program : CoreProgram
   program = is.program
 
-  store-up : (s : Valuation) → IsStoreOf net.cells s → IsStore program s
+  store-up : (s : StoreMap) → IsStoreOf net.cells s → IsStore program s
   store-up = outputs.store-up program is.table is.roots net.instant net is.of
 
   cell-same : (c : NetCell) (n : CellName) (d : CellDecl) → Contains net.cells c → c.name ≡ n → Names program n d → c.cell ≡ d.cell
   cell-same = outputs.cell-same program is.table is.roots net.instant net is.of
 
   -- by name in the program, and by cell of the net
-  at-name : (u w : Valuation) (d : NetCell) → Contains net.cells d → BelowCell u w d → BelowAt program u w d.name
+  at-name : (u w : StoreMap) (d : NetCell) → Contains net.cells d → BelowCell u w d → BelowAt program u w d.name
   at-name u w d at below e t named fits h =
       let same : d.cell ≡ e.cell = cell-same d d.name e at refl named in
       subst (λ (x : Cell). IsTrue (store_entails w d.name x t)) same
       (below t (subst (λ (x : Cell). Fits x t) (sym same) fits) (subst (λ (x : Cell). IsTrue (store_entails u d.name x t)) (sym same) h))
 
-  at-cell : (u w : Valuation) (d : NetCell) → Contains net.cells d → BelowAt program u w d.name → BelowCell u w d
+  at-cell : (u w : StoreMap) (d : NetCell) → Contains net.cells d → BelowAt program u w d.name → BelowCell u w d
   at-cell u w d at below t fits h =
       let one = outputs.cell-of program is.table is.roots net.instant net is.of d at in
       subst (λ (x : Cell). IsTrue (store_entails w d.name x t)) (sym one.cell)
       (below one.decl t one.named (subst (λ (x : Cell). Fits x t) one.cell fits) (subst (λ (x : Cell). IsTrue (store_entails u d.name x t)) one.cell h))
 
-  tell-one : (u : Valuation) (c : NetCell) (t : Token) → IsStoreOf net.cells u → Contains net.cells c → Fits c.cell t → TellsOne net.cells u c.name c.cell t (told u c.name c.cell t)
-  tell-one u c t iu at fits = subst (λ (x : Cell). TellsOne net.cells u c.name x t (told u c.name x t)) (sym one.cell) (record {
+  tell-one : (u : StoreMap) (c : NetCell) (t : Token) → IsStoreOf net.cells u → Contains net.cells c → Fits c.cell t → TellsOne net.cells u c.name c.cell t (after_tell u c.name c.cell t)
+  tell-one u c t iu at fits = subst (λ (x : Cell). TellsOne net.cells u c.name x t (after_tell u c.name x t)) (sym one.cell) (record {
     store = store;
-    above = outputs.below-down program is.table is.roots net.instant net is.of u (told u c.name one.decl.cell t) tells.above;
+    above = outputs.below-down program is.table is.roots net.instant net is.of u (after_tell u c.name one.decl.cell t) tells.above;
     entails = tells.entails;
-    least = λ y iy d there below ex. at-cell (told u c.name one.decl.cell t) y d there
+    least = λ y iy d there below ex. at-cell (after_tell u c.name one.decl.cell t) y d there
         (told-at program u c.name one.decl t (store-up u iu) one.named fits_decl y (store-up y iy) d.name (at-name u y d there below) ex);
   })
     where
@@ -115,10 +115,10 @@ module _ (net : Flat) (is : IsNet net) where
       fits_decl : Fits one.decl.cell t
       fits_decl = subst (λ (x : Cell). Fits x t) one.cell fits
 
-      tells : Tells program u c.name one.decl t (told u c.name one.decl.cell t)
+      tells : Tells program u c.name one.decl t (after_tell u c.name one.decl.cell t)
       tells = told-Tells program u c.name one.decl t (store-up u iu) one.named fits_decl
 
-      store : IsStoreOf net.cells (told u c.name one.decl.cell t)
+      store : IsStoreOf net.cells (after_tell u c.name one.decl.cell t)
       store q v e = go (same_or_not q c.name)
         where
           go : (q ≡ c.name) ⊎ (q ≢ c.name) → (d : NetCell) × Contains net.cells d × (d.name ≡ q) × IsKeptFor d.cell v
@@ -127,13 +127,13 @@ module _ (net : Flat) (is : IsNet net) where
               (c, at, sym same, subst (λ (x : Cell). IsKeptFor x v) (sym (cell-same c q r.0 at (sym same) r.1)) r.2)
           go (inr other) = iu q v (sym (get-told_other u c.name q one.decl.cell t other) ∙ e)
 
-  pub tell-all : (xs : List Named) (u : Valuation) → Each (NamedFits net.cells) xs → IsStoreOf net.cells u → TellsAll net.cells u xs (tell_named xs u)
+  pub tell-all : (xs : List Named) (u : StoreMap) → Each (NamedFits net.cells) xs → IsStoreOf net.cells u → TellsAll net.cells u xs (tell_named xs u)
   tell-all [] u fits iu = record { store = iu; above = λ c t at fits h. h; entails = refl; least = λ y iy d at below ex. below }
   tell-all (x ∷ xs) u fits iu =
       let f = fits.0 in
-      let next : Valuation = told u x.name x.cell x.token in
+      let next : StoreMap = after_tell u x.name x.cell x.token in
       let one : TellsOne net.cells u x.name x.cell x.token next =
-      subst (λ (y : Named). TellsOne net.cells u y.name y.cell y.token (told u y.name y.cell y.token)) f.same (tell-one u f.cell x.token iu f.there f.fits) in
+      subst (λ (y : Named). TellsOne net.cells u y.name y.cell y.token (after_tell u y.name y.cell y.token)) f.same (tell-one u f.cell x.token iu f.there f.fits) in
       let rest = tell-all xs next fits.1 one.store in
       record {
         store = rest.store;

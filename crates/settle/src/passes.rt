@@ -1,6 +1,6 @@
 //! Passes over the leaves of a net, and strata.
 ghost use Rattle.std.specs.Prelude.{◌≡◌, ◌+◌, ◌≤◌, false, cond, All};
-ghost use Rattle.token_system.specs.Stores.{Valuation};
+ghost use Rattle.token_system.specs.Stores.{StoreMap};
 ghost use Rattle.instant_net.specs.Opened.{IsNet};
 ghost use Rattle.instant_net.specs.Outputs.{IsOutput, IsStratified};
 ghost use Rattle.instant_net.specs.Words.{store_in, AreWords};
@@ -16,7 +16,7 @@ use instant_net::{Net, Words, tell};
 pub fn settle_stratum(net: &Net, words: &mut Words, stratum: u32)
     requires words { AreWords net.now.cells words.old }
     ensures words { AreWords net.now.cells words.new }
-    ensures settled { (input output : Valuation) → IsStratified net.now → IsOutput net.now input output
+    ensures settled { (input output : StoreMap) → IsStratified net.now → IsOutput net.now input output
         → IsOnWay net.now input output stratum (store_in net.now.cells words.old)
         → IsOnWay net.now input output (stratum + 1) (store_in net.now.cells words.new) }
 {
@@ -31,7 +31,7 @@ pub fn settle_stratum(net: &Net, words: &mut Words, stratum: u32)
 pub fn settle(net: &Net, words: &mut Words, from: u32)
     requires words { AreWords net.now.cells words.old }
     ensures words { AreWords net.now.cells words.new }
-    ensures settled { (input output : Valuation) → IsStratified net.now → IsOutput net.now input output
+    ensures settled { (input output : StoreMap) → IsStratified net.now → IsOutput net.now input output
         → IsOnWay net.now input output from (store_in net.now.cells words.old)
         → store_in net.now.cells words.new ≡ output }
 {

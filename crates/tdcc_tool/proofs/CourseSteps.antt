@@ -4,7 +4,7 @@ use Rattle.std.proofs.lemmas.List.{take-append-le}
 use Rattle.std.proofs.lemmas.List.Filters.{length-filter_both}
 use Rattle.std.proofs.lemmas.Bool.{cases_order}
 use Rattle.std.proofs.Math.Seq.{take-append_seam}
-use Rattle.token_system.specs.Stores.{Valuation}
+use Rattle.token_system.specs.Stores.{StoreMap}
 use Rattle.agent_core.specs.declared.node.Closure.{Closure}
 use Rattle.agent_core.specs.Programs.{CoreProgram}
 use Rattle.agent_core.specs.Closures.{roots}
@@ -26,7 +26,7 @@ use Rattle.tdcc_tool.specs.Steps.{count_now, Ends, Follows, Goes, IsNetAfter}
 use Rattle.tdcc_tool.specs.Writings.{ran_after, spent, line_of, instant_lines}
 use Rattle.tdcc_tool.proofs.Writings.{spent-push, instant_lines-push}
 
-module _ (b : BookView) (full : List Valuation) (keeps : Keeps b full) where
+module _ (b : BookView) (full : List StoreMap) (keeps : Keeps b full) where
   -- the leaves that the book counts are those of the instant after its run
   pub count-of-run : count_now b ≡ leaf_count b.program full
   count-of-run =
@@ -34,7 +34,7 @@ module _ (b : BookView) (full : List Valuation) (keeps : Keeps b full) where
       ∙ ap (λ (n : ℕ). length (leaves b.program (roots b.program full) n)) (sym keeps.run.whole)
 
   -- and what runs of its roots runs after that run
-  pub ran-of-run : (v : Valuation) → ran b.program (listed b.roots) (length b.ins) v ≡ ran_after b.program full v
+  pub ran-of-run : (v : StoreMap) → ran b.program (listed b.roots) (length b.ins) v ≡ ran_after b.program full v
   ran-of-run v =
       ap (λ (rs : List Closure). ran b.program rs (length b.ins) v) keeps.roots.all
       ∙ ap (λ (n : ℕ). ran b.program (roots b.program full) n v) (sym keeps.run.whole)
@@ -46,7 +46,7 @@ module _ (b : BookView) (full : List Valuation) (keeps : Keeps b full) where
       (subst (λ (rs : List Closure). IsNetOf b.program b.levels rs (length b.ins) net) keeps.roots.all of)
 
 -- the book's next roots are as many as those of the program
-pub roots-after : (b : BookView) (full : List Valuation) → Keeps b full → length b.roots.once + length b.roots.stay ≡ length (roots b.program full)
+pub roots-after : (b : BookView) (full : List StoreMap) → Keeps b full → length b.roots.once + length b.roots.stay ≡ length (roots b.program full)
 roots-after b full kept =
     let once = ap length kept.roots.once in
     let stay = ap length kept.roots.stay in
@@ -54,21 +54,21 @@ roots-after b full kept =
     omega arith
 
 -- the limits are kept by one output more
-pub keeps-more : (p : CoreProgram) (limits : Limits) (full : List Valuation) (v : Valuation) → KeepsLimits p limits full → leaf_count p full ≤ limits.net → spent p full + ran_after p full v ≤ limits.fuel
+pub keeps-more : (p : CoreProgram) (limits : Limits) (full : List StoreMap) (v : StoreMap) → KeepsLimits p limits full → leaf_count p full ≤ limits.net → spent p full + ran_after p full v ≤ limits.fuel
     → KeepsLimits p limits (full ++ v ∷ [])
 keeps-more p limits full v within fits cheap = record {
   net = λ n lt. elim (cases_order n (length full)) [
-    | inl same ↦ subst (λ (z : List Valuation). leaf_count p z ≤ limits.net) (sym (ap (λ (k : ℕ). take k (full ++ v ∷ [])) same ∙ take-append_seam full (v ∷ []))) fits
+    | inl same ↦ subst (λ (z : List StoreMap). leaf_count p z ≤ limits.net) (sym (ap (λ (k : ℕ). take k (full ++ v ∷ [])) same ∙ take-append_seam full (v ∷ []))) fits
     | inr apart ↦
         let long = length-append full (v ∷ []) in
         let less : n < length full = omega arith in
-        subst (λ (z : List Valuation). leaf_count p z ≤ limits.net) (sym (take-append-le n full (v ∷ []) (let h : n ≤ length full = omega arith in h))) (within.net n less)
+        subst (λ (z : List StoreMap). leaf_count p z ≤ limits.net) (sym (take-append-le n full (v ∷ []) (let h : n ≤ length full = omega arith in h))) (within.net n less)
   ];
   fuel = let more = spent-push p full v in omega arith;
 }
 
-module _ (c : Course) (input : Valuation) (room : length c.book.ins < 65536) where
-  is-due : (line : List ℕ) → GivesInput c.book.program line input → (full : List Valuation) → Keeps c.book full → IsDue c.book.program (length full) line input
+module _ (c : Course) (input : StoreMap) (room : length c.book.ins < 65536) where
+  is-due : (line : List ℕ) → GivesInput c.book.program line input → (full : List StoreMap) → Keeps c.book full → IsDue c.book.program (length full) line input
   is-due line given full keeps = record { given = given; few = let long = keeps.run.whole in omega arith }
 
   -- too many leaves end the run
@@ -79,12 +79,12 @@ module _ (c : Course) (input : Valuation) (room : length c.book.ins < 65536) whe
     says = tt;
   }
 
-  module _ (v : Valuation) (fits : count_now c.book ≤ c.limits.net) (total : ℕ) (counted : total ≡ c.spent + ran c.book.program (listed c.book.roots) (length c.book.ins) v) where
-    total-spent : (full : List Valuation) → Follows c full → total ≡ spent c.book.program full + ran_after c.book.program full v
+  module _ (v : StoreMap) (fits : count_now c.book ≤ c.limits.net) (total : ℕ) (counted : total ≡ c.spent + ran c.book.program (listed c.book.roots) (length c.book.ins) v) where
+    total-spent : (full : List StoreMap) → Follows c full → total ≡ spent c.book.program full + ran_after c.book.program full v
     total-spent full follows = let before = follows.spent in let here = ran-of-run c.book full follows.keeps v in omega arith
 
     -- so do too many agents
-    pub over-fuel : ((full : List Valuation) → Keeps c.book full → IsOutput c.book.program full input v) → c.limits.fuel < total → (line : List ℕ) → GivesInput c.book.program line input → Ends c c line (ends.Fuel total)
+    pub over-fuel : ((full : List StoreMap) → Keeps c.book full → IsOutput c.book.program full input v) → c.limits.fuel < total → (line : List ℕ) → GivesInput c.book.program line input → Ends c c line (ends.Fuel total)
     over-fuel output over line given = record {
       at = λ short full follows. (
         input,
@@ -103,9 +103,9 @@ module _ (c : Course) (input : Valuation) (room : length c.book.ins < 65536) whe
 
     -- and otherwise the run goes on
     pub goes-on : (after : Course) (net : Flat) → after.writing ≡ c.writing → after.limits ≡ c.limits → after.spent ≡ total → total ≤ c.limits.fuel
-        → IsClosed c.book after.book input v → ((full : List Valuation) → Keeps c.book full → Keeps after.book (full ++ v ∷ []))
+        → IsClosed c.book after.book input v → ((full : List StoreMap) → Keeps c.book full → Keeps after.book (full ++ v ∷ []))
         → IsNetOf c.book.program c.book.levels (listed c.book.roots) (length c.book.ins) net
-        → ((past : List Valuation) → Keeps after.book (past ++ v ∷ []) → IsNetAfter after.book past net → after.lines.items ≡ c.lines.items ++ line_of after.writing after.book.program past v)
+        → ((past : List StoreMap) → Keeps after.book (past ++ v ∷ []) → IsNetAfter after.book past net → after.lines.items ≡ c.lines.items ++ line_of after.writing after.book.program past v)
         → (line : List ℕ) → GivesInput c.book.program line input → Goes c after line
     goes-on after net writing limits is-total cheap closed keeps of lines line given = record {
       few = room;
@@ -136,5 +136,5 @@ module _ (c : Course) (input : Valuation) (room : length c.book.ins < 65536) whe
       };
     }
       where
-        same-lines : (full : List Valuation) → instant_lines c.writing c.book.program full ≡ instant_lines after.writing after.book.program full
+        same-lines : (full : List StoreMap) → instant_lines c.writing c.book.program full ≡ instant_lines after.writing after.book.program full
         same-lines full = ap (λ (w : Writing). instant_lines w c.book.program full) (sym writing) ∙ ap (λ (q : CoreProgram). instant_lines after.writing q full) (sym closed.program)

@@ -8,7 +8,7 @@ use Rattle.std.proofs.lemmas.List.Sums.{sum_by-cons}
 use Rattle.tdcc_base.specs.declared.status.Status.{Status}
 use Rattle.tdcc_base.specs.declared.status.Status.TheVariants as statuses
 use Rattle.tdcc_base.specs.Texts.{text_of}
-use Rattle.token_system.specs.Stores.{Valuation}
+use Rattle.token_system.specs.Stores.{StoreMap}
 use Rattle.agent_core.specs.Programs.{CoreProgram}
 use Rattle.agent_core.specs.Stores.{IsStore}
 use Rattle.agent_laws.proofs.Runs.{has_run}
@@ -43,7 +43,7 @@ use Rattle.tdcc_tool.proofs.WholeRuns.{whole_status}
 
 module _ (p : CoreProgram) where
   -- lines each of which gives some input give inputs
-  given_inputs : (lines : List (List ℕ)) → All (GivesSomeInput p) lines → (ins : List Valuation) × GiveInputs p lines ins
+  given_inputs : (lines : List (List ℕ)) → All (GivesSomeInput p) lines → (ins : List StoreMap) × GiveInputs p lines ins
   given_inputs [] all = ([], tt)
   given_inputs (line ∷ lines) all =
       let (i, given) = All-head (GivesSomeInput p) line lines all in
@@ -51,7 +51,7 @@ module _ (p : CoreProgram) where
       (i ∷ ins, (given, later))
 
   -- what lines give are stores
-  given_stores : (lines : List (List ℕ)) (ins : List Valuation) → GiveInputs p lines ins → All (IsStore p) ins
+  given_stores : (lines : List (List ℕ)) (ins : List StoreMap) → GiveInputs p lines ins → All (IsStore p) ins
   given_stores [] [] all = All-nil (IsStore p)
   given_stores (line ∷ lines) (i ∷ ins) all = All-cons (IsStore p) i ins all.0.input.store (given_stores lines ins all.1)
   given_stores [] (i ∷ ins) all = absurd all
@@ -76,7 +76,7 @@ module _ (n : ℕ) where
         }
 
     -- fewer than 900 agents run in each instant
-    few_spent : (past outs : List Valuation) → sum_by (λ k. k) (each_after (ran_after p) past outs) ≤ length outs * 900
+    few_spent : (past outs : List StoreMap) → sum_by (λ k. k) (each_after (ran_after p) past outs) ≤ length outs * 900
     few_spent past [] = omega arith
     few_spent past (v ∷ outs) =
         let low = small n p is in
@@ -87,7 +87,7 @@ module _ (n : ℕ) where
         omega arith
 
     -- so as many instants as a run may have stay below the usual limits
-    within_usual : (outs : List Valuation) → length outs ≤ 65536 → KeepsLimits p usual_limits outs
+    within_usual : (outs : List StoreMap) → length outs ≤ 65536 → KeepsLimits p usual_limits outs
     within_usual outs most = record {
       net = λ m lt. let low = small n p is in let nodes = low.few_nodes in let leaves = few n p (take m outs) is in omega arith;
       fuel = let ran = few_spent [] outs in omega arith;

@@ -3,7 +3,7 @@ use Rattle.std.proofs.Common.{◌≡◌, ℕ, ◌<◌, ◌≤◌, List, length, 
 use Rattle.std.specs.Prelude.{Result}
 use Rattle.std.proofs.lemmas.List.{length-map}
 use Rattle.std.proofs.lemmas.Bool.{cases_lt}
-use Rattle.token_system.specs.Stores.{Valuation}
+use Rattle.token_system.specs.Stores.{StoreMap}
 use Rattle.agent_core.specs.declared.node.Closure.{Closure}
 use Rattle.agent_core.specs.Programs.{CoreProgram}
 use Rattle.agent_core.specs.Stores.{IsInput}
@@ -50,12 +50,12 @@ net-of-book b p table rs t flat ep el er et of =
     (subst (λ (x : List ℕ). IsNetOf p x (listed b.roots) (length b.ins) flat) el
     (subst (λ (x : List Closure). IsNetOf p table x (length b.ins) flat) er (subst (λ (x : ℕ). IsNetOf p table rs x flat) et of)))
 
-module _ (b : BookView) (is : IsBook b) (i : Valuation) (input : IsInput b.program i) (closures : RootsAreClosures) (one : RootsHaveOneOutput) (stratified : NetsAreStratified) (outs : NetsHaveRootOutputs)
+module _ (b : BookView) (is : IsBook b) (i : StoreMap) (input : IsInput b.program i) (closures : RootsAreClosures) (one : RootsHaveOneOutput) (stratified : NetsAreStratified) (outs : NetsHaveRootOutputs)
     (flat : Flat) (of : IsNetOf b.program b.levels (listed b.roots) (length b.ins) flat) where
   the_output : ExactlyOne (IsOutputOf b.program (listed b.roots) (length b.ins) i)
   the_output = one b.program b.levels is.program is.stratified (listed b.roots) (book-closures b is closures) (length b.ins) i input.store
 
-  abbrev output : Valuation
+  abbrev output : StoreMap
   output = the_output.0
 
   net_output : net.IsOutput flat i output
@@ -65,8 +65,8 @@ module _ (b : BookView) (is : IsBook b) (i : Valuation) (input : IsInput b.progr
   given_net = net_output.given
 
   -- from words of the input the net is completed to its output
-  pub completed : (before after : Valuation) → before ≡ i
-      → ((input output : Valuation) → net.IsStratified flat → net.IsOutput flat input output → IsOnWay flat input output 0 before → after ≡ output)
+  pub completed : (before after : StoreMap) → before ≡ i
+      → ((input output : StoreMap) → net.IsStratified flat → net.IsOutput flat input output → IsOnWay flat input output 0 before → after ≡ output)
       → net.IsOutput flat i after
   completed before after same settled =
       let way : IsOnWay flat i output 0 i = record {
@@ -79,7 +79,7 @@ module _ (b : BookView) (is : IsBook b) (i : Valuation) (input : IsInput b.progr
       subst (net.IsOutput flat i) (sym ends) net_output
 
   -- and that is the output of the instant after those of the run that the book keeps
-  pub output-of-run : (v : Valuation) → net.IsOutput flat i v → (full : List Valuation) → Keeps b full → IsOutput b.program full i v
+  pub output-of-run : (v : StoreMap) → net.IsOutput flat i v → (full : List StoreMap) → Keeps b full → IsOutput b.program full i v
   output-of-run v is-output full keeps =
       let of-roots : IsOutputOf b.program (listed b.roots) (length b.ins) i v = (outs b.program b.levels (listed b.roots) (length b.ins) flat of i v input).0 is-output in
       output-of_roots b.program is.program full i v

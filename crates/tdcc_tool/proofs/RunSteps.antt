@@ -8,7 +8,7 @@ use Rattle.tdcc_base.specs.declared.status.Status.{Status}
 use Rattle.tdcc_base.specs.declared.stops.LineEnd.TheVariants as line_ends
 use Rattle.tdcc_base.specs.declared.stops.ReadStop.TheVariants as stops
 use Rattle.tdcc_base.specs.Lines.{first_line, after_line, onto_first, lines_of, ReadsLine}
-use Rattle.token_system.specs.Stores.{Valuation}
+use Rattle.token_system.specs.Stores.{StoreMap}
 use Rattle.agent_core.specs.Programs.{CoreProgram}
 use Rattle.agent_core.specs.Outputs.{IsRun}
 use Rattle.trace_text.specs.declared.fault.LineFault.TheVariants as faults
@@ -37,7 +37,7 @@ pub record Has (c : Course) (s : Settings) : Type 0 where
 -- the course follows a run over the lines that are done
 pub record Progress (s : Settings) (trace : List ℕ) (left : Option (List ℕ)) (c : Course) : Type 0 where
   pub done : List (List ℕ)
-  pub full : List Valuation
+  pub full : List StoreMap
   pub rest : List ℕ
   pub known : left ≡ Some rest
   pub lines : lines_of trace ≡ done ++ lines_of rest
@@ -61,13 +61,13 @@ lines-first (b ∷ c ∷ bytes) some = go (b == 10) (lines-first (c ∷ bytes) (
     go true h = refl
     go false h = ap (onto_first b) h
 
-pub given_long : (p : CoreProgram) (lines : List (List ℕ)) (ins : List Valuation) → GiveInputs p lines ins → length ins ≡ length lines
+pub given_long : (p : CoreProgram) (lines : List (List ℕ)) (ins : List StoreMap) → GiveInputs p lines ins → length ins ≡ length lines
 given_long p [] [] r = refl
 given_long p (line ∷ lines) (i ∷ ins) r = ap suc (given_long p lines ins r.1)
 given_long p [] (i ∷ ins) r = absurd r
 given_long p (line ∷ lines) [] r = absurd r
 
-given_more : (p : CoreProgram) (lines : List (List ℕ)) (ins : List Valuation) (line : List ℕ) (i : Valuation) → GiveInputs p lines ins → GivesInput p line i → GiveInputs p (lines ++ line ∷ []) (ins ++ i ∷ [])
+given_more : (p : CoreProgram) (lines : List (List ℕ)) (ins : List StoreMap) (line : List ℕ) (i : StoreMap) → GiveInputs p lines ins → GivesInput p line i → GiveInputs p (lines ++ line ∷ []) (ins ++ i ∷ [])
 given_more p [] [] line i r h = (h, tt)
 given_more p (l ∷ lines) (j ∷ ins) line i r h = (r.0, given_more p lines ins line i r.1 h)
 given_more p [] (j ∷ ins) line i r h = absurd r
@@ -109,7 +109,7 @@ module _ (s : Settings) where
   -- what is answered where the run ends so, after the course
   pub record IsEnd (c : Course) (end : End) (status : Status) (o e : List ℕ) : Type 0 where
     pub status_is : status ≡ status_of end
-    pub out : (full : List Valuation) → Follows c full → o ≡ written c.writing c.book.program full
+    pub out : (full : List StoreMap) → Follows c full → o ≡ written c.writing c.book.program full
     pub err : e ≡ end_line (length c.book.ins) end
 
   module _ (trace : List ℕ) (left : Option (List ℕ)) (c : Course) (pr : Progress s trace left c) where

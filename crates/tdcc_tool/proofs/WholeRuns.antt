@@ -8,7 +8,7 @@ use Rattle.tdcc_base.specs.declared.status.Status.TheVariants as statuses
 use Rattle.tdcc_base.specs.Promises.{TakesAllWithin}
 use Rattle.tdcc_base.specs.Texts.{text_of, trace_of}
 use Rattle.tdcc_base.specs.Lines.{lines_of}
-use Rattle.token_system.specs.Stores.{Valuation}
+use Rattle.token_system.specs.Stores.{StoreMap}
 use Rattle.agent_core.specs.Programs.{CoreProgram}
 use Rattle.agent_core.specs.Outputs.{IsRun}
 use Rattle.agent_core.specs.Strata.{Stratifies}
@@ -34,7 +34,7 @@ use Rattle.tdcc_tool.proofs.RunSteps.{given_long}
 
 module _ (p : CoreProgram) where
   -- the line at each place gives the input at that place
-  given_at : (lines : List (List ℕ)) (ins : List Valuation) (n : ℕ) (line : List ℕ) → GiveInputs p lines ins → slice_get lines n ≡ Some line → (n < length ins) × (i : Valuation) × (slice_get ins n ≡ Some i) × GivesInput p line i
+  given_at : (lines : List (List ℕ)) (ins : List StoreMap) (n : ℕ) (line : List ℕ) → GiveInputs p lines ins → slice_get lines n ≡ Some line → (n < length ins) × (i : StoreMap) × (slice_get ins n ≡ Some i) × GivesInput p line i
   given_at [] [] n line all e = absurd (cc)
   given_at [] (i ∷ ins) n line all e = absurd all
   given_at (l ∷ lines) [] n line all e = absurd all
@@ -42,7 +42,7 @@ module _ (p : CoreProgram) where
   given_at (l ∷ lines) (i ∷ ins) (suc n) line all e = let h = given_at lines ins n line all.1 e in let lt = h.0 in (omega arith, h.1, h.2, h.3)
 
   -- such a run ends at the end of the trace
-  ends_whole : (table : List ℕ) → IsWellFormed p → Stratifies p table → (limits : Limits) (lines : List (List ℕ)) (ins outs : List Valuation) (n : ℕ) (e : End) → GiveInputs p lines ins → IsRun p ins outs → length ins ≤ 65536 → KeepsLimits p limits outs → n ≤ length ins
+  ends_whole : (table : List ℕ) → IsWellFormed p → Stratifies p table → (limits : Limits) (lines : List (List ℕ)) (ins outs : List StoreMap) (n : ℕ) (e : End) → GiveInputs p lines ins → IsRun p ins outs → length ins ≤ 65536 → KeepsLimits p limits outs → n ≤ length ins
       → EndsBy p limits lines (take n outs) e → e ≡ ends.Whole
   ends_whole table is strat limits lines ins outs n e all run few within le (inl h) = h.0
   ends_whole table is strat limits lines ins outs n e all run few within le (inr (line, at, ends)) =
@@ -52,7 +52,7 @@ module _ (p : CoreProgram) where
       absurd (front_goes_on p table is strat limits ins outs n line e run few within g.0 g.1 g.2 g.3 ends)
 
   -- as many inputs are no more than the lines
-  front_long : (lines : List (List ℕ)) (ins : List Valuation) (n : ℕ) → GiveInputs p lines ins → n ≤ length lines → n ≤ length ins
+  front_long : (lines : List (List ℕ)) (ins : List StoreMap) (n : ℕ) → GiveInputs p lines ins → n ≤ length lines → n ≤ length ins
   front_long lines ins n all le = let e = given_long p lines ins all in omega arith
 
 module _ (bytes : List ℕ) where
@@ -64,7 +64,7 @@ module _ (bytes : List ℕ) where
   whole_run writing p s o e table built fits limits r answer =
       answer.status_is ∙ ap status_of (go r.program r.outputs (one_built (text_of bytes) r.program p r.accepted.built built) r.given r.run r.within)
     where
-      go : (q : CoreProgram) (outputs : List Valuation) → q ≡ p → GiveInputs q lines r.inputs → IsRun q r.inputs outputs → KeepsLimits q limits outputs → answer.end ≡ ends.Whole
+      go : (q : CoreProgram) (outputs : List StoreMap) → q ≡ p → GiveInputs q lines r.inputs → IsRun q r.inputs outputs → KeepsLimits q limits outputs → answer.end ≡ ends.Whole
       go q outputs same given run within =
           let is = built_program (text_of bytes) p built in
           let given' = subst (λ (x : CoreProgram). GiveInputs x lines r.inputs) same given in
@@ -74,8 +74,8 @@ module _ (bytes : List ℕ) where
           let all : take (length r.inputs) lines ≡ lines = take_all (length r.inputs) lines (let e = given_long p lines r.inputs given' in omega arith) in
           let front = same_front p lines answer.ins r.inputs answer.given (subst (λ (ls : List (List ℕ)). GiveInputs p ls r.inputs) (sym all) given') le in
           let outs : answer.outs ≡ take (length answer.ins) outputs = one_run p table is fits answer.ins answer.outs (take (length answer.ins) outputs) answer.run
-          (subst (λ (xs : List Valuation). IsRun p xs (take (length answer.ins) outputs)) (sym front) (run-front p r.inputs outputs (length answer.ins) le run')) in
-          ends_whole p table is fits limits lines r.inputs outputs (length answer.ins) answer.end given' run' r.few within' le (subst (λ (z : List Valuation). EndsBy p limits lines z answer.end) outs answer.ends)
+          (subst (λ (xs : List StoreMap). IsRun p xs (take (length answer.ins) outputs)) (sym front) (run-front p r.inputs outputs (length answer.ins) le run')) in
+          ends_whole p table is fits limits lines r.inputs outputs (length answer.ins) answer.end given' run' r.few within' le (subst (λ (z : List StoreMap). EndsBy p limits lines z answer.end) outs answer.ends)
 
   pub whole_status : (writing : Writing) (limits : Limits) → RunsThrough limits bytes → (s : Status) (o e : List ℕ) → AnswersTo (tasks.Run writing limits) bytes s o e → s ≡ statuses.Ok
   whole_status writing limits r s o e (inl x) = absurd (built_no_fault (text_of bytes) r.program x.fault r.accepted.built x.has)

@@ -8,7 +8,7 @@ use Rattle.tdcc_base.specs.declared.status.Status.{Status}
 use Rattle.tdcc_base.specs.declared.status.Status.TheVariants as statuses
 use Rattle.tdcc_base.specs.Lines.{lines_of}
 use Rattle.tdcc_base.specs.Texts.{text_of, trace_of}
-use Rattle.token_system.specs.Stores.{Valuation}
+use Rattle.token_system.specs.Stores.{StoreMap}
 use Rattle.agent_core.specs.Programs.{CoreProgram}
 use Rattle.agent_core.specs.Outputs.{IsRun}
 use Rattle.agent_core.specs.Strata.{Stratifies}
@@ -29,21 +29,21 @@ use Rattle.tdcc_tool.specs.Checks.{CheckAnswer}
 use Rattle.tdcc_tool.specs.Tasks.{task_of, input_of}
 
 -- each of these lines gives the input at its place
-abbrev pub GiveInputs : CoreProgram → List (List ℕ) → List Valuation → Type 0
+abbrev pub GiveInputs : CoreProgram → List (List ℕ) → List StoreMap → Type 0
 GiveInputs p [] [] = Unit {0}
 GiveInputs p (line ∷ lines) (i ∷ ins) = GivesInput p line i × GiveInputs p lines ins
 GiveInputs p [] (i ∷ ins) = ⊥
 GiveInputs p (line ∷ lines) [] = ⊥
 
 -- the instants that have these outputs keep the limits: none has too many leaves, and not too many agents ran in all of them
-pub record KeepsLimits (p : CoreProgram) (limits : Limits) (outs : List Valuation) : Type 0 where
+pub record KeepsLimits (p : CoreProgram) (limits : Limits) (outs : List StoreMap) : Type 0 where
   pub net : (n : ℕ) → n < length outs → leaf_count p (take n outs) ≤ limits.net
   pub fuel : spent p outs ≤ limits.fuel
 
 -- The answer of a program to the lines of a trace: what is written of the run on the inputs of the lines, up to the end of the trace, to the first line that stops it, or to the first instant that goes past a limit.
 pub record RunAnswer (p : CoreProgram) (writing : Writing) (limits : Limits) (lines : List (List ℕ)) (status : Status) (out err : List ℕ) : Type 0 where
-  pub ins : List Valuation
-  pub outs : List Valuation
+  pub ins : List StoreMap
+  pub outs : List StoreMap
   pub few : length ins ≤ 65536
   pub given : GiveInputs p (take (length ins) lines) ins
   pub run : IsRun p ins outs

@@ -5,7 +5,7 @@ use Rattle.tdcc_base.specs.Lines.{lines_of}
 use Rattle.tdcc_base.specs.Texts.{text_of, trace_of}
 use Rattle.tdcc_base.specs.declared.status.Status.{Status}
 use Rattle.tdcc_base.specs.declared.status.Status.TheVariants as statuses
-use Rattle.token_system.specs.Stores.{Valuation}
+use Rattle.token_system.specs.Stores.{StoreMap}
 use Rattle.agent_core.specs.Programs.{CoreProgram}
 use Rattle.agent_core.specs.Outputs.{IsRun}
 use Rattle.command_words.specs.declared.command.Command.TheVariants.{Run, Report}
@@ -21,10 +21,10 @@ CallsRun limits words = IsCommand (Run limits) words ⊎ IsCommand (Report limit
 pub record RunsThrough (limits : Limits) (bytes : List ℕ) : Type 0 where
   pub program : CoreProgram
   pub accepted : Accepts (text_of bytes) program
-  pub inputs : List Valuation
+  pub inputs : List StoreMap
   pub few : length inputs ≤ 65536
   pub given : GiveInputs program (lines_of (trace_of bytes)) inputs
-  pub outputs : List Valuation
+  pub outputs : List StoreMap
   pub run : IsRun program inputs outputs
   pub within : KeepsLimits program limits outputs
 

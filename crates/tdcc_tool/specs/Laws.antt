@@ -3,7 +3,7 @@ use Rattle.std.specs.Prelude.{◌≡◌, ◌↔◌, ℕ, List, ◌++◌, All, ma
 use Rattle.std.specs.declared.alloc.Global.{Global}
 use Rattle.command_words.specs.Words.{SetsWorkers}
 use Rattle.tdcc_base.specs.declared.status.Status.{Status}
-use Rattle.token_system.specs.Stores.{Valuation}
+use Rattle.token_system.specs.Stores.{StoreMap}
 use Rattle.agent_core.specs.Programs.{CoreProgram}
 use Rattle.agent_core.specs.Stores.{IsStore}
 use Rattle.agent_core.specs.Outputs.{IsOutput, IsRun}
@@ -13,11 +13,11 @@ use Rattle.tdcc_tool.specs.Answers.{Answers}
 
 -- the program of an accepted text has exactly one output, after any closed stores, on each of its stores
 abbrev pub AcceptedHaveOneOutput : List ℕ → Type 0
-AcceptedHaveOneOutput text = (p : CoreProgram) → Accepts text p → (closed : List Valuation) (input : Valuation) → IsStore p input → ExactlyOne (IsOutput p closed input)
+AcceptedHaveOneOutput text = (p : CoreProgram) → Accepts text p → (closed : List StoreMap) (input : StoreMap) → IsStore p input → ExactlyOne (IsOutput p closed input)
 
 -- and exactly one run on inputs
 abbrev pub AcceptedHaveOneRun : List ℕ → Type 0
-AcceptedHaveOneRun text = (p : CoreProgram) → Accepts text p → (ins : List Valuation) → All (IsStore p) ins → ExactlyOne (IsRun p ins)
+AcceptedHaveOneRun text = (p : CoreProgram) → Accepts text p → (ins : List StoreMap) → All (IsStore p) ins → ExactlyOne (IsRun p ins)
 
 -- the words differ in the number of workers alone
 pub record DifferInWorkers (words others : List (String Global)) : Type 0 where

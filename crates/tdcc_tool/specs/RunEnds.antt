@@ -3,7 +3,7 @@ use Rattle.std.specs.Prelude.{◌≡◌, ◌≢◌, ◌⊎◌, ℕ, ◌<◌, ◌
 use Rattle.command_words.specs.declared.settings.Limits.{Limits}
 use Rattle.tdcc_base.specs.declared.status.Status.{Status}
 use Rattle.tdcc_base.specs.declared.status.Status.TheVariants as statuses
-use Rattle.token_system.specs.Stores.{Valuation}
+use Rattle.token_system.specs.Stores.{StoreMap}
 use Rattle.agent_core.specs.Programs.{CoreProgram}
 use Rattle.agent_core.specs.Closures.{roots}
 use Rattle.agent_core.specs.Leaves.{leaves}
@@ -18,7 +18,7 @@ use Rattle.tdcc_tool.specs.Messages.{trace_line, many_line, net_line, fuel_line}
 use Rattle.tdcc_tool.specs.Writings.{spent}
 
 -- how many leaves the instant has that follows these outputs
-abbrev pub leaf_count : CoreProgram → List Valuation → ℕ
+abbrev pub leaf_count : CoreProgram → List StoreMap → ℕ
 leaf_count p outs = length (leaves p (roots p outs) (length outs))
 
 -- the line of instant n has the fault; a line behind those of all instants is looked at for its length alone
@@ -28,33 +28,33 @@ pub record IsBadLine (p : CoreProgram) (n : ℕ) (line : List ℕ) (fault : Line
   pub due : (n < 65536) ⊎ (fault ≡ faults.LineTooLong)
 
 -- the line gives the input of instant n
-pub record IsDue (p : CoreProgram) (n : ℕ) (line : List ℕ) (input : Valuation) : Type 0 where
+pub record IsDue (p : CoreProgram) (n : ℕ) (line : List ℕ) (input : StoreMap) : Type 0 where
   pub given : GivesInput p line input
   pub few : n < 65536
 
 -- the instant that follows these outputs has this many leaves, which is too many
-pub record IsOverNet (p : CoreProgram) (limits : Limits) (outs : List Valuation) (count : ℕ) : Type 0 where
+pub record IsOverNet (p : CoreProgram) (limits : Limits) (outs : List StoreMap) (count : ℕ) : Type 0 where
   pub counted : count ≡ leaf_count p outs
   pub over : limits.net < count
 
 -- it has not, but with its output on this input this many agents ran, which is too many
-pub record IsOverFuel (p : CoreProgram) (limits : Limits) (outs : List Valuation) (input : Valuation) (count : ℕ) : Type 0 where
+pub record IsOverFuel (p : CoreProgram) (limits : Limits) (outs : List StoreMap) (input : StoreMap) (count : ℕ) : Type 0 where
   pub fits : leaf_count p outs ≤ limits.net
-  pub output : Valuation
+  pub output : StoreMap
   pub is : IsOutput p outs input output
   pub counted : count ≡ spent p (outs ++ output ∷ [])
   pub over : limits.fuel < count
 
 -- this line ends a run so after the instants that have these outputs
-abbrev pub EndsAt : CoreProgram → Limits → List Valuation → List ℕ → End → Type 0
+abbrev pub EndsAt : CoreProgram → Limits → List StoreMap → List ℕ → End → Type 0
 EndsAt p limits outs line ends.Whole = ⊥
 EndsAt p limits outs line (ends.Line fault) = IsBadLine p (length outs) line fault
 EndsAt p limits outs line ends.Many = (length line ≤ 32768) × (length outs ≡ 65536)
-EndsAt p limits outs line (ends.Net count) = (input : Valuation) × IsDue p (length outs) line input × IsOverNet p limits outs count
-EndsAt p limits outs line (ends.Fuel count) = (input : Valuation) × IsDue p (length outs) line input × IsOverFuel p limits outs input count
+EndsAt p limits outs line (ends.Net count) = (input : StoreMap) × IsDue p (length outs) line input × IsOverNet p limits outs count
+EndsAt p limits outs line (ends.Fuel count) = (input : StoreMap) × IsDue p (length outs) line input × IsOverFuel p limits outs input count
 
 -- these lines end a run so after the instants that have these outputs: all of them are done, or the next one ends it
-abbrev pub EndsBy : CoreProgram → Limits → List (List ℕ) → List Valuation → End → Type 0
+abbrev pub EndsBy : CoreProgram → Limits → List (List ℕ) → List StoreMap → End → Type 0
 EndsBy p limits lines outs end = ((end ≡ ends.Whole) × (length outs ≡ length lines)) ⊎ ((line : List ℕ) × (slice_get lines (length outs) ≡ Some line) × EndsAt p limits outs line end)
 
 abbrev pub status_of : End → Status

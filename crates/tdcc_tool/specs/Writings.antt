@@ -3,7 +3,7 @@ use Rattle.std.specs.Prelude.{ℕ, List, [], ◌∷◌, ◌++◌, length, codes,
 use Rattle.std.specs.FinMap.{get}
 use Rattle.std.specs.List.{concat, range_with_len, sum_by}
 use Rattle.token_system.specs.declared.name.CellName.TheVariants.{Declared}
-use Rattle.token_system.specs.Stores.{Valuation}
+use Rattle.token_system.specs.Stores.{StoreMap}
 use Rattle.agent_core.specs.Programs.{CoreProgram}
 use Rattle.agent_core.specs.Closures.{roots}
 use Rattle.agent_core.specs.Leaves.{ran}
@@ -14,16 +14,16 @@ use Rattle.tdcc_tool.specs.declared.writing.Writing.{Writing}
 use Rattle.tdcc_tool.specs.declared.writing.Writing.TheVariants.{Stores, Reports, Summary}
 
 -- what f makes of each output, with the outputs that stand before it
-abbrev pub each_after : {X : Type 0} → (List Valuation → Valuation → X) → List Valuation → List Valuation → List X
+abbrev pub each_after : {X : Type 0} → (List StoreMap → StoreMap → X) → List StoreMap → List StoreMap → List X
 each_after f past [] = []
 each_after f past (v ∷ later) = f past v ∷ each_after f (past ++ v ∷ []) later
 
 -- how many agents run in the instant that follows these outputs and has this one
-abbrev pub ran_after : CoreProgram → List Valuation → Valuation → ℕ
+abbrev pub ran_after : CoreProgram → List StoreMap → StoreMap → ℕ
 ran_after p past v = ran p (roots p past) (length past) v
 
 -- how many agents run in the instants that have these outputs, together
-abbrev pub spent : CoreProgram → List Valuation → ℕ
+abbrev pub spent : CoreProgram → List StoreMap → ℕ
 spent p outs = sum_by (λ n. n) (each_after (ran_after p) [] outs)
 
 -- REPORTS
@@ -35,27 +35,27 @@ report_text n r =
     ++ codes " parked " ++ decimal r.parked ++ codes " next " ++ decimal r.next
 
 -- those of the instant that follows these outputs and has this one
-abbrev pub report_line : CoreProgram → List Valuation → Valuation → List ℕ
+abbrev pub report_line : CoreProgram → List StoreMap → StoreMap → List ℕ
 report_line p past v = report_text (length past) (report_of p (roots p past) (length past) v (length (roots p (past ++ v ∷ []))))
 
 -- SUMMARIES
 
 -- the store keeps something of the declared cell of this number; of a bottom nothing is kept
-abbrev pub is_told : Valuation → ℕ → Bool
+abbrev pub is_told : StoreMap → ℕ → Bool
 is_told v n = is_some (get v (Declared n))
 
 -- how many declared cells a store tells something of
-abbrev pub told_cells : CoreProgram → Valuation → ℕ
+abbrev pub told_cells : CoreProgram → StoreMap → ℕ
 told_cells p v = length (filter (is_told v) (range_with_len 0 p.declared))
 
 -- the store line of the last output, where there is one
-abbrev pub last_line : CoreProgram → List Valuation → List ℕ
+abbrev pub last_line : CoreProgram → List StoreMap → List ℕ
 last_line p [] = []
 last_line p (v ∷ []) = store_line p v
 last_line p (v ∷ w ∷ later) = last_line p (w ∷ later)
 
 -- how many instants there were, what ran in them, what they told, and the last store: `instants 2 ran 3 cells 1 last a`
-abbrev pub summary_line : CoreProgram → List Valuation → List ℕ
+abbrev pub summary_line : CoreProgram → List StoreMap → List ℕ
 summary_line p outs =
     codes "instants " ++ decimal (length outs) ++ codes " ran " ++ decimal (spent p outs) ++ codes " cells " ++ decimal (sum_by (told_cells p) outs)
     ++ codes " last " ++ last_line p outs
@@ -63,17 +63,17 @@ summary_line p outs =
 -- WRITINGS
 
 -- what is written of the instant that follows these outputs and has this one
-abbrev pub line_of : Writing → CoreProgram → List Valuation → Valuation → List ℕ
+abbrev pub line_of : Writing → CoreProgram → List StoreMap → StoreMap → List ℕ
 line_of Stores p past v = store_line p v ++ 10 ∷ []
 line_of Reports p past v = report_line p past v ++ 10 ∷ []
 line_of Summary p past v = []
 
 -- the lines of the instants
-abbrev pub instant_lines : Writing → CoreProgram → List Valuation → List ℕ
+abbrev pub instant_lines : Writing → CoreProgram → List StoreMap → List ℕ
 instant_lines writing p outs = concat (each_after (line_of writing p) [] outs)
 
 -- what is written of a run that has these outputs
-abbrev pub written : Writing → CoreProgram → List Valuation → List ℕ
+abbrev pub written : Writing → CoreProgram → List StoreMap → List ℕ
 written Stores p outs = instant_lines Stores p outs
 written Reports p outs = instant_lines Reports p outs
 written Summary p outs = summary_line p outs ++ 10 ∷ []

@@ -1,6 +1,6 @@
 //! What a command ends with, and what is written then.
 ghost use Rattle.std.specs.Prelude.{◌≡◌, ◌≢◌, [], List, IfOk, length};
-ghost use Rattle.token_system.specs.Stores.{Valuation};
+ghost use Rattle.token_system.specs.Stores.{StoreMap};
 ghost use Rattle.tdcc_reader.specs.declared.fault.ReadFault.TheVariants.{Memory as OutOfMemory};
 ghost use Rattle.tdcc_tool.specs.Answers.{CoreAnswer};
 ghost use Rattle.tdcc_tool.specs.Messages.{program_line as program_line_of, strata_line as strata_line_of};
@@ -107,7 +107,7 @@ pub fn core_answer(alloc: Global, program: &Program) -> Result<Answer, Memory>
 pub fn finish(alloc: Global, course: Course, end: End) -> Result<Answer, Memory>
     requires { Says end }
     ensures status { IfOk result (λ a. a.status ≡ status_of end) }
-    ensures out { IfOk result (λ a. (full : List Valuation) → Follows course full → a.out.items ≡ written course.writing course.book.program full) }
+    ensures out { IfOk result (λ a. (full : List StoreMap) → Follows course full → a.out.items ≡ written course.writing course.book.program full) }
     ensures err { IfOk result (λ a. a.err.items ≡ end_line_of (length course.book.ins) end) }
 {
     let err = end_line(alloc, course.book.instants(), end)?;

@@ -1,6 +1,6 @@
 //! How a run begins, goes on by an instant, and is written.
 ghost use Rattle.std.specs.Prelude.{◌≡◌, ◌<◌, ◌≤◌, [], ℕ, List, IfOk, MatchOption, length};
-ghost use Rattle.token_system.specs.Stores.{Valuation};
+ghost use Rattle.token_system.specs.Stores.{StoreMap};
 ghost use Rattle.agent_core.specs.Stores.{IsInput};
 ghost use Rattle.agent_core.specs.Strata.{Stratifies};
 ghost use Rattle.trace_text.specs.Inputs.{GivesInput};
@@ -70,7 +70,7 @@ impl Course {
 
     /// All that is written of the run.
     pub fn written(self, alloc: Global) -> Result<Vec<u8>, Memory>
-        ensures { IfOk result (λ out. (full : List Valuation) → Follows self full → out.items ≡ writings.written self.writing self.book.program full) }
+        ensures { IfOk result (λ out. (full : List StoreMap) → Follows self full → out.items ≡ writings.written self.writing self.book.program full) }
     {
         match self.writing {
             Writing::Stores => Ok(self.lines),

@@ -12,7 +12,7 @@ use Rattle.token_system.specs.declared.cell.Token.TheVariants.{On, Off, AtLeast,
 use Rattle.token_system.specs.declared.cell.Value.{Value}
 use Rattle.token_system.specs.declared.cell.Value.TheVariants as values
 use Rattle.token_system.specs.Values.{IsProper, IsValueOf, WithinDomain}
-use Rattle.token_system.specs.Joins.{IsBelow, implies, value_leq, value_join, signal_of, number_of}
+use Rattle.token_system.specs.Joins.{IsBelow, implies, value_leq, value_join, signal_of, number_between}
 use Rattle.token_system.proofs.Alike.{Covers, true_false, within_bound, le_itself, same_tokens}
 use Rattle.token_system.proofs.Adding.{signal_covers, number_covers, clash_covers}
 
@@ -177,7 +177,7 @@ min_greatest b d f p q = grind (arith, ints)
 above_signal : (v : Value) (on off : Bool) → IsTrue (value_leq v (values.Signal on off)) → IsTrue (value_leq v (signal_of on off))
 above_signal v on off h = elim (on && off) as (λ b. IsTrue (value_leq v (cond b values.Clash (values.Signal on off)))) [ true ↦ refl | false ↦ h ]
 
-above_number : (v : Value) (lo hi : ℤ) → IsTrue (value_leq v (values.Number lo hi)) → IsTrue (value_leq v (number_of lo hi))
+above_number : (v : Value) (lo hi : ℤ) → IsTrue (value_leq v (values.Number lo hi)) → IsTrue (value_leq v (number_between lo hi))
 above_number v lo hi h = elim (int_lt hi lo) as (λ b. IsTrue (value_leq v (cond b values.Clash (values.Number lo hi)))) [ true ↦ refl | false ↦ h ]
 
 pub join-above_first : (x y : Value) → IsTrue (value_leq x (value_join x y))
@@ -205,7 +205,7 @@ signal_below true true true false p h k = absurd (true_false (sym k))
 signal_below true false x y p h k = both _ _ h k
 signal_below false off x y p h k = both _ _ h k
 
-number_below : (lo hi x y : ℤ) → IsProper (values.Number x y) → lo ≤ℤ x → y ≤ℤ hi → IsTrue (value_leq (number_of lo hi) (values.Number x y))
+number_below : (lo hi x y : ℤ) → IsProper (values.Number x y) → lo ≤ℤ x → y ≤ℤ hi → IsTrue (value_leq (number_between lo hi) (values.Number x y))
 number_below lo hi x y p h k = go _ refl
   where
     go : (b : Bool) → int_lt hi lo ≡ b → IsTrue (value_leq (cond b values.Clash (values.Number lo hi)) (values.Number x y))

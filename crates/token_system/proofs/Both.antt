@@ -14,7 +14,7 @@ use Rattle.token_system.specs.declared.cell.Value.{Value}
 use Rattle.token_system.specs.declared.cell.Value.TheVariants as values
 use Rattle.token_system.specs.Tokens.{IsLower, IsUpper, Clashes, AreOpposed}
 use Rattle.token_system.specs.Values.{StandsFor, IsValueOf}
-use Rattle.token_system.specs.Joins.{value_join, signal_of, number_of}
+use Rattle.token_system.specs.Joins.{value_join, signal_of, number_between}
 use Rattle.token_system.proofs.Alike.{true_false}
 use Rattle.token_system.proofs.Sums.{cell_of, Bounds, Signs, SumsUp, sum-stands}
 use Rattle.token_system.proofs.Standing.{stands-sums_up}
@@ -105,7 +105,7 @@ module _ (lo hi : ℤ) (l : IsTrue (is_cell kinds.Number lo hi)) (ts us : List T
   number_made a b x y calm true e = inr (a, b, grind (arith, ints), x.0, y.0)
   number_made a b x y calm false e = record { low = x.0; lowest = x.1; high = y.0; highest = y.1; calm = calm; proper = grind (arith, ints) }
 
-  numbers_join : (a b c d : ℤ) → Bounds number ts a b → Bounds number us c d → SumsUp number kinds.Number (ts ++ us) (number_of (int_max a c) (int_min b d))
+  numbers_join : (a b c d : ℤ) → Bounds number ts a b → Bounds number us c d → SumsUp number kinds.Number (ts ++ us) (number_between (int_max a c) (int_min b d))
   numbers_join a b c d i j =
       number_made (int_max a c) (int_min b d) (greatest_lower number ts us a c i.lowest j.lowest i.low j.low) (least_upper number ts us b d i.highest j.highest i.high j.high)
       (told_in_either number ts us Clash ⊥ i.calm j.calm) _ refl

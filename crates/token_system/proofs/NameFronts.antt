@@ -6,7 +6,7 @@ use Rattle.std.specs.Char.{is_ascii_alphabetic}
 use Rattle.std.proofs.lemmas.Bool.Decides.{nat_tests}
 use Rattle.token_system.specs.declared.cell.Token.{Token}
 use Rattle.token_system.specs.declared.reading.Written.{Written}
-use Rattle.token_system.specs.Texts.{is_name, is_name_byte, IsNameFront, IsNamed, IsTail, alone, at_least, at_most, exactly, IsTokenText, off, clash, plain}
+use Rattle.token_system.specs.Texts.{is_name, is_name_byte, IsNamePrefix, IsNamed, IsTail, alone, at_least, at_most, exactly, IsTokenText, off, clash, plain}
 use Rattle.token_system.proofs.Alike.{true_false}
 
 pub first_true : (a b : Bool) → (a && b) ≡ true → a ≡ true
@@ -38,7 +38,7 @@ name_bytes (b ∷ bs) h =
     let both = first_true (is_ascii_alphabetic b && list_all is_name_byte bs) (nat_le (length bs) 31) h in
     rw (letter_in_name b (first_true (is_ascii_alphabetic b) (list_all is_name_byte bs) both)) (second_true (is_ascii_alphabetic b) (list_all is_name_byte bs) both)
 
-front-length : (name rest : List ℕ) (n : ℕ) → list_all is_name_byte name ≡ true → StartsOutside rest → IsNameFront (name ++ rest) n → n ≡ length name
+front-length : (name rest : List ℕ) (n : ℕ) → list_all is_name_byte name ≡ true → StartsOutside rest → IsNamePrefix (name ++ rest) n → n ≡ length name
 front-length [] rest zero all out h = refl
 front-length [] [] (suc n) all out h = absurd (omega (arith, h.within))
 front-length [] (r ∷ rest) (suc n) all out h = absurd (true_false (sym (first_true (is_name_byte r) (list_all is_name_byte (take n rest)) h.name_bytes) ∙ out))
@@ -58,19 +58,19 @@ drop-own [] ys = refl
 drop-own (x ∷ xs) ys = drop-own xs ys
 
 -- where a text is named, the front that names may have is the name, and the rest is the rest
-pub named_parts : (bytes : List ℕ) (n : ℕ) (w : Written) → IsNameFront bytes n → (h : IsNamed bytes w) → (take n bytes ≡ h.name) × (drop n bytes ≡ h.rest)
+pub named_parts : (bytes : List ℕ) (n : ℕ) (w : Written) → IsNamePrefix bytes n → (h : IsNamed bytes w) → (take n bytes ≡ h.name) × (drop n bytes ≡ h.rest)
 named_parts bytes n w front h =
-    let ends = front-length h.name h.rest n (name_bytes h.name h.is_a_name) (tail-outside h.rest w.first w.second h.tail) (subst (λ (bs : List ℕ). IsNameFront bs n) h.parts front) in (
+    let ends = front-length h.name h.rest n (name_bytes h.name h.is_a_name) (tail-outside h.rest w.first w.second h.tail) (subst (λ (bs : List ℕ). IsNamePrefix bs n) h.parts front) in (
       ap (take n) h.parts ∙ ap (λ m. take m (h.name ++ h.rest)) ends ∙ take-own h.name h.rest,
       ap (drop n) h.parts ∙ ap (λ m. drop m (h.name ++ h.rest)) ends ∙ drop-own h.name h.rest,
     )
 
 -- so it is not named where that front is no name
-pub no_name : (bytes : List ℕ) (n : ℕ) (w : Written) → IsNameFront bytes n → is_name (take n bytes) ≡ false → IsNamed bytes w → ⊥
+pub no_name : (bytes : List ℕ) (n : ℕ) (w : Written) → IsNamePrefix bytes n → is_name (take n bytes) ≡ false → IsNamed bytes w → ⊥
 no_name bytes n w front fails h = true_false (sym h.is_a_name ∙ ap is_name (sym (named_parts bytes n w front h).0) ∙ fails)
 
 -- nor where nothing reads the rest
-pub no_tail : (bytes : List ℕ) (n : ℕ) (w : Written) → IsNameFront bytes n → ((first : Token) (second : Option Token) → IsTail (drop n bytes) first second → ⊥) → IsNamed bytes w → ⊥
+pub no_tail : (bytes : List ℕ) (n : ℕ) (w : Written) → IsNamePrefix bytes n → ((first : Token) (second : Option Token) → IsTail (drop n bytes) first second → ⊥) → IsNamed bytes w → ⊥
 no_tail bytes n w front fails h = fails w.first w.second (subst (λ (bs : List ℕ). IsTail bs w.first w.second) (sym (named_parts bytes n w front h).1) h.tail)
 
 -- a text that begins with neither mark is a name and what follows it

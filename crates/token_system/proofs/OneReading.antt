@@ -6,12 +6,12 @@ use Rattle.std.specs.Char.{is_ascii_alphabetic}
 use Rattle.token_system.specs.declared.cell.Token.{Token}
 use Rattle.token_system.specs.declared.cell.Token.TheVariants.{Off, AtLeast, AtMost, Clash}
 use Rattle.token_system.specs.declared.reading.Written.{Written}
-use Rattle.token_system.specs.Texts.{is_name, is_name_byte, marked_name, number_of_text, IsNameFront, IsNamed, IsTail, alone, at_least, at_most, exactly, IsTokenText, off, clash, plain}
+use Rattle.token_system.specs.Texts.{is_name, is_name_byte, marked_name, number_of_text, IsNamePrefix, IsNamed, IsTail, alone, at_least, at_most, exactly, IsTokenText, off, clash, plain}
 use Rattle.token_system.proofs.Alike.{true_false}
 use Rattle.token_system.proofs.NameFronts.{StartsOutside, tail-outside, name_bytes, named_parts, first_true}
 
 -- the front that names may have, where a name stands first and no name byte after it
-front_of : (name rest : List ℕ) → list_all is_name_byte name ≡ true → StartsOutside rest → IsNameFront (name ++ rest) (length name)
+front_of : (name rest : List ℕ) → list_all is_name_byte name ≡ true → StartsOutside rest → IsNamePrefix (name ++ rest) (length name)
 front_of [] [] all out = record { within = omega arith; name_bytes = refl; stops = λ lt. absurd (omega arith) }
 front_of [] (r ∷ rest) all out = record { within = omega arith; name_bytes = refl; stops = λ lt. out }
 front_of (b ∷ name) rest all out =
@@ -64,7 +64,7 @@ same_written v w p q r s = λ i. record { name_start = p i; name_end = q i; firs
 one_named : (bytes : List ℕ) (v w : Written) → IsNamed bytes v → IsNamed bytes w → v ≡ w
 one_named bytes v w g h =
     let front = front_of g.name g.rest (name_bytes g.name g.is_a_name) (tail-outside g.rest v.first v.second g.tail) in
-    let at : IsNameFront bytes (length g.name) = subst (λ (bs : List ℕ). IsNameFront bs (length g.name)) (sym g.parts) front in
+    let at : IsNamePrefix bytes (length g.name) = subst (λ (bs : List ℕ). IsNamePrefix bs (length g.name)) (sym g.parts) front in
     let mine = named_parts bytes (length g.name) v at g in
     let other = named_parts bytes (length g.name) w at h in
     let tails = one_tail g.rest v.first w.first v.second w.second g.tail (subst (λ (bs : List ℕ). IsTail bs w.first w.second) (sym other.1 ∙ mine.1) h.tail) in

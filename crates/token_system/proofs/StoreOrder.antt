@@ -9,7 +9,7 @@ use Rattle.token_system.specs.declared.cell.Token.{Token}
 use Rattle.token_system.specs.declared.cell.Value.{Value}
 use Rattle.token_system.specs.Values.{bottom_of, value_entails, IsProper, IsValueOf, StandsFor}
 use Rattle.token_system.specs.Joins.{IsBelow, value_join, value_leq}
-use Rattle.token_system.specs.Stores.{Valuation, value_at, store_entails, IsKeptFor}
+use Rattle.token_system.specs.Stores.{StoreMap, value_at, store_entails, IsKeptFor}
 use Rattle.token_system.specs.StoreJoins.{CanJoin, KeepsAbove, IsStoreBelow, AreKeptFor, EntailsAllOf, kept_by_both}
 use Rattle.token_system.proofs.Adding.{bottom_covered, bottom_within}
 use Rattle.token_system.proofs.Below.{leq-is_below, below-antisymm, leq-refl, leq-antisymm, join-least, join-above_first, join-above_second}
@@ -26,7 +26,7 @@ value_kept : (c : Cell) (o : Option Value) → IfSome o (IsKeptFor c) → IsValu
 value_kept c None h = bottom_value c
 value_kept c (Some v) h = h.value
 
-kept_at : (cell_of : CellName → Cell) (s : Valuation) → AreKeptFor cell_of s → (n : CellName) → IfSome (get s n) (IsKeptFor (cell_of n))
+kept_at : (cell_of : CellName → Cell) (s : StoreMap) → AreKeptFor cell_of s → (n : CellName) → IfSome (get s n) (IsKeptFor (cell_of n))
 kept_at cell_of s h n = go (get s n) refl
   where
     go : (o : Option Value) → get s n ≡ o → IfSome o (IsKeptFor (cell_of n))
@@ -36,7 +36,7 @@ kept_at cell_of s h n = go (get s n) refl
 leq-below : (c : Cell) (v w : Value) → IsValueOf c v → IsValueOf c w → (IsTrue (value_leq v w)) ↔ (IsBelow c v w)
 leq-below c v w hv hw = leq-is_below v w (value_leq v w) refl c hv hw
 
-module _ (cell_of : CellName → Cell) (r s : Valuation) (hr : AreKeptFor cell_of r) (hs : AreKeptFor cell_of s) where
+module _ (cell_of : CellName → Cell) (r s : StoreMap) (hr : AreKeptFor cell_of r) (hs : AreKeptFor cell_of s) where
   value_of_s : (n : CellName) → IsValueOf (cell_of n) (value_at s n (cell_of n))
   value_of_s n = value_kept (cell_of n) (get s n) (kept_at cell_of s hs n)
 
@@ -69,7 +69,7 @@ module _ (cell_of : CellName → Cell) (r s : Valuation) (hr : AreKeptFor cell_o
           (bottom_below (cell_of n) v (hr n v e).value)))
 
 -- a test whether a store is below another says whether the other entails all that it entails
-pub test_entails : (r s : Valuation) (b : Bool) → (IsTrue b) ↔ (IsStoreBelow r s) → (cell_of : CellName → Cell) → AreKeptFor cell_of r → AreKeptFor cell_of s → (IsTrue b) ↔ (EntailsAllOf cell_of r s)
+pub test_entails : (r s : StoreMap) (b : Bool) → (IsTrue b) ↔ (IsStoreBelow r s) → (cell_of : CellName → Cell) → AreKeptFor cell_of r → AreKeptFor cell_of s → (IsTrue b) ↔ (EntailsAllOf cell_of r s)
 test_entails r s b h cell_of hr hs = (λ e. below-entails cell_of r s hr hs (h.0 e), λ all. h.1 (entails-below cell_of r s hr hs all))
 
 join_absorbs : (x y : Value) → IsProper y → IsTrue (value_leq x y) → value_join x y ≡ y
@@ -85,7 +85,7 @@ both_values c None (Some w) h k = sym (join_absorbs (bottom_of c) w k.value.prop
 both_values c (Some v) None h k = sym (join_absorbs_second v (bottom_of c) h.value.proper ((leq-below c (bottom_of c) v (bottom_value c) h.value).1 (bottom_below c v h.value)))
 both_values c (Some v) (Some w) h k = refl
 
-pub both-stand : (r s both : Valuation) → ((n : CellName) → get both n ≡ kept_by_both (get r n) (get s n)) → (c : Cell) (n : CellName) (ts us : List Token)
+pub both-stand : (r s both : StoreMap) → ((n : CellName) → get both n ≡ kept_by_both (get r n) (get s n)) → (c : Cell) (n : CellName) (ts us : List Token)
     → IfSome (get r n) (IsKeptFor c) → IfSome (get s n) (IsKeptFor c) → StandsFor c (value_at r n c) ts → StandsFor c (value_at s n c) us → StandsFor c (value_at both n c) (ts ++ us)
 both-stand r s both by_name c n ts us kr ks sr ss =
     subst (λ (v : Value). StandsFor c v (ts ++ us))
@@ -93,5 +93,5 @@ both-stand r s both by_name c n ts us kr ks sr ss =
     (join-stands c ts us (value_at r n c) (value_at s n c) (value_kept c (get r n) kr) (value_kept c (get s n) ks) sr ss)
 
 -- an empty store can be compared and joined with each
-pub empty_can_join : (r s : Valuation) → r ≡ empty → CanJoin r s
+pub empty_can_join : (r s : StoreMap) → r ≡ empty → CanJoin r s
 empty_can_join r s e n v w p q = absurd (let none : None ≡ Some v = sym (ap (λ m. get m n) e ∙ get-empty name_cmp n) ∙ p in cc)

@@ -13,7 +13,7 @@ use Rattle.token_system.specs.declared.cell.Value.{Value}
 use Rattle.token_system.specs.Tokens.{Fits}
 use Rattle.token_system.specs.Values.{bottom_of, value_with, value_eq, StandsFor, IsProper, WithinDomain}
 use Rattle.token_system.specs.Names.{name_cmp, name_total, name_cmp-IsAntisymmetric}
-use Rattle.token_system.specs.Stores.{Valuation, value_at, told, IsKeptFor, CanHold}
+use Rattle.token_system.specs.Stores.{StoreMap, value_at, after_tell, IsKeptFor, CanHold}
 use Rattle.token_system.proofs.Alike.{true_false, Covers, same_tokens}
 use Rattle.token_system.proofs.Adding.{added, bottom_covered, bottom_within, value_eq-true}
 use Rattle.token_system.proofs.Standing.{with-stands}
@@ -27,18 +27,18 @@ equal_names q n e = name_cmp-IsAntisymmetric q n (go (name_cmp q n) e)
     go Equal h = refl
     go Greater h = absurd (true_false (sym h))
 
-get-insert_other : (s : Valuation) (n q : CellName) (v : Value) → q ≢ n → get (insert s n v) q ≡ get s q
+get-insert_other : (s : StoreMap) (n q : CellName) (v : Value) → q ≢ n → get (insert s n v) q ≡ get s q
 get-insert_other s n q v differ = go (eq_by_cmp name_cmp q n) refl
   where
     go : (b : Bool) → eq_by_cmp name_cmp q n ≡ b → get (insert s n v) q ≡ get s q
     go true e = absurd (differ (equal_names q n e))
     go false e = get-insert name_total s n v q ∙ ap (λ b. cond b (Some v) (get s q)) e
 
-get-insert_same : (s : Valuation) (n : CellName) (v : Value) → get (insert s n v) n ≡ Some v
+get-insert_same : (s : StoreMap) (n : CellName) (v : Value) → get (insert s n v) n ≡ Some v
 get-insert_same s n v = get-insert name_total s n v n ∙ ap (λ b. cond b (Some v) (get s n)) ((eq_by_cmp_equiv name_total).refl n)
 
 -- every other name keeps what it had
-pub get-told_other : (s : Valuation) (n q : CellName) (c : Cell) (t : Token) → q ≢ n → get (told s n c t) q ≡ get s q
+pub get-told_other : (s : StoreMap) (n q : CellName) (c : Cell) (t : Token) → q ≢ n → get (after_tell s n c t) q ≡ get s q
 get-told_other s n q c t differ = go (value_eq (value_with (value_at s n c) t) (bottom_of c))
   where
     go : (b : Bool) → get (cond b s (insert s n (value_with (value_at s n c) t))) q ≡ get s q
@@ -54,7 +54,7 @@ rises_to_bottom c v t f d p e =
     (bottom_covered c.kind c.lo c.hi v d)
 
 -- the cell's value has the token more, where the store keeps none of its bottoms
-pub value_at-told : (s : Valuation) (n : CellName) (c : Cell) (t : Token) → Fits c t → IfSome (get s n) (IsKeptFor c) → value_at (told s n c t) n c ≡ value_with (value_at s n c) t
+pub value_at-told : (s : StoreMap) (n : CellName) (c : Cell) (t : Token) → Fits c t → IfSome (get s n) (IsKeptFor c) → value_at (after_tell s n c t) n c ≡ value_with (value_at s n c) t
 value_at-told s n c t f kept = go (value_eq (value_with (value_at s n c) t) (bottom_of c)) refl
   where
     bottom_already : (o : Option Value) → IfSome o (IsKeptFor c) → value_with (unwrap_or o (bottom_of c)) t ≡ bottom_of c → unwrap_or o (bottom_of c) ≡ value_with (unwrap_or o (bottom_of c)) t
@@ -66,6 +66,6 @@ value_at-told s n c t f kept = go (value_eq (value_with (value_at s n c) t) (bot
     go false e = ap (λ o. unwrap_or o (bottom_of c)) (get-insert_same s n (value_with (value_at s n c) t))
 
 -- so it stands for the tokens that it stood for and the new one
-pub told-stands : (s : Valuation) (n : CellName) (c : Cell) (t : Token) → CanHold s n c t → IfSome (get s n) (IsKeptFor c)
-    → (ts : List Token) → StandsFor c (value_at s n c) ts → StandsFor c (value_at (told s n c t) n c) (ts ++ t ∷ [])
+pub told-stands : (s : StoreMap) (n : CellName) (c : Cell) (t : Token) → CanHold s n c t → IfSome (get s n) (IsKeptFor c)
+    → (ts : List Token) → StandsFor c (value_at s n c) ts → StandsFor c (value_at (after_tell s n c t) n c) (ts ++ t ∷ [])
 told-stands s n c t can kept ts h = subst (λ (v : Value). StandsFor c v (ts ++ t ∷ [])) (sym (value_at-told s n c t can.fits kept)) (with-stands c ts (value_at s n c) t can.fits can.kind can.proper h)

@@ -35,11 +35,11 @@ abbrev pub signal_of : Bool → Bool → Value
 signal_of on off = cond (on && off) values.Clash (values.Signal on off)
 
 -- a number between these bounds: a clash where they cross
-abbrev pub number_of : ℤ → ℤ → Value
-number_of lo hi = cond (int_lt hi lo) values.Clash (values.Number lo hi)
+abbrev pub number_between : ℤ → ℤ → Value
+number_between lo hi = cond (int_lt hi lo) values.Clash (values.Number lo hi)
 
 -- the join of two values of one kind
 abbrev pub value_join : Value → Value → Value
 value_join (values.Signal a b) (values.Signal c d) = signal_of (a || c) (b || d)
-value_join (values.Number a b) (values.Number c d) = number_of (int_max a c) (int_min b d)
+value_join (values.Number a b) (values.Number c d) = number_between (int_max a c) (int_min b d)
 value_join _ _ = values.Clash

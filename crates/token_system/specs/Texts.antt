@@ -74,7 +74,7 @@ pub data IsTokenText (bytes : List ℕ) (w : Written) : Type 0 where
   plain : IsNamed bytes w → IsTokenText bytes w
 
 -- the first n bytes are such as stand in names, and the next is not, if there is one
-pub record IsNameFront (bytes : List ℕ) (n : ℕ) : Type 0 where
+pub record IsNamePrefix (bytes : List ℕ) (n : ℕ) : Type 0 where
   pub within : n ≤ length bytes
   pub name_bytes : list_all is_name_byte (take n bytes) ≡ true
   pub stops : n < length bytes → is_name_byte (slice_index bytes n) ≡ false

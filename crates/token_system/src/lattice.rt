@@ -1,7 +1,7 @@
 //! The order of values by what they entail, and their join.
 ghost use Rattle.std.specs.Prelude.{◌≡◌, ◌↔◌, List, ◌++◌, IsTrue};
 ghost use Rattle.token_system.specs.Values.{IsProper, IsValueOf, StandsFor};
-ghost use Rattle.token_system.specs.Joins.{AreOfOneKind, IsBelow, number_of, signal_of, value_join, value_leq};
+ghost use Rattle.token_system.specs.Joins.{AreOfOneKind, IsBelow, number_between, signal_of, value_join, value_leq};
 ghost use Rattle.token_system.specs.declared.cell.Cell.{Cell};
 ghost use Rattle.token_system.specs.declared.cell.Token.{Token};
 
@@ -85,7 +85,7 @@ fn signal(on: bool, off: bool) -> Value
 
 // A number between these bounds.
 fn number(lo: i64, hi: i64) -> Value
-    ensures value { result ≡ number_of lo hi }
+    ensures value { result ≡ number_between lo hi }
     ensures proper { IsProper result }
 {
     if hi < lo {

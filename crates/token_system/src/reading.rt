@@ -1,7 +1,7 @@
 //! Reading a token's text.
 ghost use Rattle.std.specs.Prelude.{◌≡◌, option_map, pos, false, length, IsErr, IsNone, IfOk, IfSome, IsTrue, Option};
 ghost use Rattle.std.specs.List.{list_all};
-ghost use Rattle.token_system.specs.Texts.{is_name as is_name_text, is_name_byte as is_name_byte_of, digits_number, marked_name, number_of_text, IsNameFront, IsNamed, IsTail, IsTokenText};
+ghost use Rattle.token_system.specs.Texts.{is_name as is_name_text, is_name_byte as is_name_byte_of, digits_number, marked_name, number_of_text, IsNamePrefix, IsNamed, IsTail, IsTokenText};
 ghost use Rattle.token_system.specs.declared.cell.Token.{Token};
 ghost use Rattle.token_system.specs.declared.reading.Written.{Written};
 
@@ -128,7 +128,7 @@ fn digits(bytes: &[u8]) -> Option<u32>
 
 // How many bytes from the first on may stand in a name.
 fn name_end(bytes: &[u8]) -> usize
-    ensures { IsNameFront bytes.now result }
+    ensures { IsNamePrefix bytes.now result }
 {
     for (place, byte) in bytes.iter().enumerate() {
         if !is_name_byte(*byte) {

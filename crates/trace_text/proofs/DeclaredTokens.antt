@@ -9,7 +9,7 @@ use Rattle.std.proofs.lemmas.Option.{slice_get_read}
 use Rattle.token_system.specs.declared.cell.Token.{Token}
 use Rattle.token_system.specs.declared.name.CellName.TheVariants.{Declared}
 use Rattle.token_system.specs.Tokens.{Fits}
-use Rattle.token_system.specs.Stores.{Valuation}
+use Rattle.token_system.specs.Stores.{StoreMap}
 use Rattle.agent_core.specs.declared.node.CellDecl.{CellDecl}
 use Rattle.agent_core.specs.Programs.{CoreProgram}
 use Rattle.agent_core.specs.Names.{Names, name_of, local_name, new_of}
@@ -47,7 +47,7 @@ named_within p name cell d found =
     omega (arith, length-take p.declared p.cells, at.0)
 
 -- the store after one token is told is one of the program
-pub store_told : (p : CoreProgram) (s : Valuation) (pair : ℕ × Token) → IsStore p s → TokenFits p [] pair → IsStore p (told_one p pair s)
+pub store_told : (p : CoreProgram) (s : StoreMap) (pair : ℕ × Token) → IsStore p s → TokenFits p [] pair → IsStore p (told_one p pair s)
 store_told p s pair is f = (tells_one p [] s pair is f).store
 
 -- the cell that was read from the list of cells, by the number that its name has

@@ -5,7 +5,7 @@ use Rattle.std.proofs.lemmas.Bool.{eqb-true}
 use Rattle.std.specs.List.{slice_split, onto_first}
 use Rattle.std.specs.FinMap.{empty}
 use Rattle.std.proofs.lemmas.List.{append-nil, drop_all, length_push}
-use Rattle.token_system.specs.Stores.{Valuation}
+use Rattle.token_system.specs.Stores.{StoreMap}
 use Rattle.agent_core.specs.Agents.{Constraint}
 use Rattle.agent_core.specs.Programs.{CoreProgram}
 use Rattle.agent_core.specs.Stores.{IsStore}
@@ -41,7 +41,7 @@ span-split (b ∷ line) = go (is_blank b) (span-split line)
     go false h = span-onto b (slice_split is_blank line) (length line) h
 
 -- these parts of the line are left, of which the first stands at this place, and the pieces before them were told to the store
-pub record ReadSoFar (p : CoreProgram) (line : List ℕ) (rest : List (List ℕ)) (offset : ℕ) (s : Valuation) : Type 0 where
+pub record ReadSoFar (p : CoreProgram) (line : List ℕ) (rest : List (List ℕ)) (offset : ℕ) (s : StoreMap) : Type 0 where
   pub before : List Piece
   pub whole : pieces line ≡ before ++ pieces_from offset rest
   pub tokens : Constraint
@@ -49,22 +49,22 @@ pub record ReadSoFar (p : CoreProgram) (line : List ℕ) (rest : List (List ℕ)
   pub told : s ≡ tell_all p [] tokens empty
   pub left : offset + span rest ≡ length line + 1
 
-pub read-start : (p : CoreProgram) (line : List ℕ) (s : Valuation) → s ≡ empty → ReadSoFar p line (slice_split is_blank line) 0 s
+pub read-start : (p : CoreProgram) (line : List ℕ) (s : StoreMap) → s ≡ empty → ReadSoFar p line (slice_split is_blank line) 0 s
 read-start p line s e = record { before = []; whole = refl; tokens = []; said = refl; told = e; left = let h = span-split line in omega arith }
 
 module _ (p : CoreProgram) (line : List ℕ) where
-  pub read-store : (rest : List (List ℕ)) (offset : ℕ) (s : Valuation) → ReadSoFar p line rest offset s → IsStore p s
+  pub read-store : (rest : List (List ℕ)) (offset : ℕ) (s : StoreMap) → ReadSoFar p line rest offset s → IsStore p s
   read-store rest offset s r =
       subst (IsStore p) (sym r.told) (tell_all-least p [] r.tokens empty (empty-IsStore p) (say_all_fit p r.before r.tokens r.said)).store
 
-  pub read-end : (offset : ℕ) (old s : Valuation) → old ≡ empty → ReadSoFar p line [] offset s → TellsPieces p (pieces line) old s
+  pub read-end : (offset : ℕ) (old s : StoreMap) → old ≡ empty → ReadSoFar p line [] offset s → TellsPieces p (pieces line) old s
   read-end offset old s e r = record {
     tokens = r.tokens;
     said = subst (λ (all : List Piece). SayAll p all r.tokens) (sym (r.whole ∙ append-nil r.before)) r.said;
     told = r.told ∙ ap (tell_all p [] r.tokens) (sym e);
   }
 
-  module _ (part : List ℕ) (rest : List (List ℕ)) (offset : ℕ) (s : Valuation) (r : ReadSoFar p line (part ∷ rest) offset s) where
+  module _ (part : List ℕ) (rest : List (List ℕ)) (offset : ℕ) (s : StoreMap) (r : ReadSoFar p line (part ∷ rest) offset s) where
     left_over : offset + (length part + 1) + span rest ≡ length line + 1
     left_over = let h : offset + (length part + 1 + span rest) ≡ length line + 1 = r.left in omega arith
 
@@ -88,7 +88,7 @@ module _ (p : CoreProgram) (line : List ℕ) where
       here = r.whole ∙ ap (λ b. r.before ++ cond b (record { offset = offset; bytes = part } ∷ pieces_from (offset + (length part + 1)) rest) (pieces_from (offset + (length part + 1)) rest)) some
 
       -- a piece is told
-      pub read-tell : (next : Valuation) → TellsPiece p part s next → ReadSoFar p line rest (offset + (length part + 1)) next
+      pub read-tell : (next : StoreMap) → TellsPiece p part s next → ReadSoFar p line rest (offset + (length part + 1)) next
       read-tell next t = record {
         before = r.before ++ record { offset = offset; bytes = part } ∷ [];
         whole = here ∙ sym (append_assoc r.before (record { offset = offset; bytes = part } ∷ []) (pieces_from (offset + (length part + 1)) rest));
@@ -103,18 +103,18 @@ module _ (p : CoreProgram) (line : List ℕ) where
       read-refused f h = first_refused p (pieces line) r.before (record { offset = offset; bytes = part }) (pieces_from (offset + (length part + 1)) rest) r.tokens f here r.said h
 
 -- the part that comes next in a list of parts
-pub read-at : (p : CoreProgram) (line : List ℕ) (parts : List (List ℕ)) (k offset : ℕ) (s : Valuation) (part : List ℕ) → (k < length parts) × (part ≡ get_or parts k part)
+pub read-at : (p : CoreProgram) (line : List ℕ) (parts : List (List ℕ)) (k offset : ℕ) (s : StoreMap) (part : List ℕ) → (k < length parts) × (part ≡ get_or parts k part)
     → ReadSoFar p line (drop k parts) offset s → ReadSoFar p line (part ∷ drop (k + 1) parts) offset s
 read-at p line parts k offset s part (lt, is) r =
     subst (λ (x : List ℕ). ReadSoFar p line (x ∷ drop (k + 1) parts) offset s) (sym is)
     (subst (λ (rest : List (List ℕ)). ReadSoFar p line rest offset s) (rw add-one (drop-cons parts k part lt)) r)
 
 -- no part is left
-pub read-past : (p : CoreProgram) (line : List ℕ) (parts : List (List ℕ)) (k offset : ℕ) (s : Valuation) → length parts ≤ k → ReadSoFar p line (drop k parts) offset s → ReadSoFar p line [] offset s
+pub read-past : (p : CoreProgram) (line : List ℕ) (parts : List (List ℕ)) (k offset : ℕ) (s : StoreMap) → length parts ≤ k → ReadSoFar p line (drop k parts) offset s → ReadSoFar p line [] offset s
 read-past p line parts k offset s over r = subst (λ (rest : List (List ℕ)). ReadSoFar p line rest offset s) (drop_all k parts over) r
 
 -- one part more was read
-pub read-pushed : (p : CoreProgram) (line : List ℕ) (parts : List (List ℕ)) {X : Type 0} (xs : List X) (x : X) (offset : ℕ) (s : Valuation)
+pub read-pushed : (p : CoreProgram) (line : List ℕ) (parts : List (List ℕ)) {X : Type 0} (xs : List X) (x : X) (offset : ℕ) (s : StoreMap)
     → ReadSoFar p line (drop (length xs + 1) parts) offset s → ReadSoFar p line (drop (length (xs ++ x ∷ [])) parts) offset s
 read-pushed p line parts xs x offset s r = subst (λ (k : ℕ). ReadSoFar p line (drop k parts) offset s) (sym (length_push xs x)) r
 

@@ -12,7 +12,7 @@ use Rattle.token_system.specs.declared.cell.Value.{Value}
 use Rattle.token_system.specs.declared.name.CellName.{CellName}
 use Rattle.token_system.specs.declared.name.CellName.TheVariants.{Declared, Local}
 use Rattle.token_system.specs.Values.{bottom_of, value_entails}
-use Rattle.token_system.specs.Stores.{Valuation, value_at, store_entails}
+use Rattle.token_system.specs.Stores.{StoreMap, value_at, store_entails}
 use Rattle.token_system.proofs.Adding.{bottom_covered}
 use Rattle.agent_core.specs.declared.node.CellDecl.{CellDecl}
 use Rattle.agent_core.specs.Agents.{Constraint}
@@ -92,15 +92,15 @@ later_cells p n d ds are j e at =
     let same : n + suc j ≡ suc n + j = omega arith in subst (λ (k : ℕ). (k < p.declared) × (slice_get p.cells k ≡ Some e)) same (are (suc j) e at)
 
 -- the tokens of a declared cell, and those of some cells
-abbrev pub own_tokens : ℕ → CellDecl → Valuation → List Token
+abbrev pub own_tokens : ℕ → CellDecl → StoreMap → List Token
 own_tokens n d i = value_tokens d.cell.kind d.cell.lo d.cell.hi (value_at i (Declared n) d.cell)
 
-abbrev pub all_tokens : ℕ → List CellDecl → Valuation → Constraint
+abbrev pub all_tokens : ℕ → List CellDecl → StoreMap → Constraint
 all_tokens n [] i = []
 all_tokens n (d ∷ ds) i = cell_ask n (own_tokens n d i) ++ all_tokens (suc n) ds i
 
 -- texts depend on the declared cells alone
-cells_same : (p : CoreProgram) (v i : Valuation) → ((n : ℕ) → n < p.declared → get v (Declared n) ≡ get i (Declared n)) → (n : ℕ) (ds : List CellDecl) → AreCells p n ds → cell_texts n ds v ≡ cell_texts n ds i
+cells_same : (p : CoreProgram) (v i : StoreMap) → ((n : ℕ) → n < p.declared → get v (Declared n) ≡ get i (Declared n)) → (n : ℕ) (ds : List CellDecl) → AreCells p n ds → cell_texts n ds v ≡ cell_texts n ds i
 cells_same p v i same n [] are = refl
 cells_same p v i same n (d ∷ ds) are =
     let here = first_cell p n d ds are in
@@ -108,7 +108,7 @@ cells_same p v i same n (d ∷ ds) are =
     ∙ ap (λ (texts : List (List ℕ)). value_texts d.name d.cell (value_at i (Declared n) d.cell) ++ texts) (cells_same p v i same (suc n) ds (later_cells p n d ds are))
 
 -- tokens of one cell, as its value entails them
-module _ (p : CoreProgram) (u : Valuation) (n : ℕ) (d : CellDecl) (lt : n < p.declared) (found : slice_get p.cells n ≡ Some d) where
+module _ (p : CoreProgram) (u : StoreMap) (n : ℕ) (d : CellDecl) (lt : n < p.declared) (found : slice_get p.cells n ≡ Some d) where
   holds_one : (t : Token) → holds p [] u (n, t) ≡ value_entails (value_at u (Declared n) d.cell) t
   holds_one t = ap (λ (o : Option CellDecl). holds_at o p [] u n t) found ∙ ap (λ (name : CellName). store_entails u name d.cell t) (declared_name p n lt)
 
@@ -123,7 +123,7 @@ module _ (p : CoreProgram) (u : Valuation) (n : ℕ) (d : CellDecl) (lt : n < p.
     ask_tells ts (second_of_both (holds p [] u (n, t)) (entails p [] u (cell_ask n ts)) h),
   )
 
-module _ (p : CoreProgram) (names : HasOwnNames p) (i : Valuation) (is : IsStore p i) where
+module _ (p : CoreProgram) (names : HasOwnNames p) (i : StoreMap) (is : IsStore p i) where
   -- the texts say the tokens
   cells_say : (n : ℕ) (ds : List CellDecl) → AreCells p n ds → SayTexts p (cell_texts n ds i) (all_tokens n ds i)
   cells_say n [] are = refl
@@ -160,7 +160,7 @@ module _ (p : CoreProgram) (names : HasOwnNames p) (i : Valuation) (is : IsStore
       (cells_hold (suc n) ds (later_cells p n d ds are))
 
   -- a store that entails the tokens entails those of each cell
-  cells_tell : (u : Valuation) (n : ℕ) (ds : List CellDecl) → AreCells p n ds → IsTrue (entails p [] u (all_tokens n ds i)) → (j : ℕ) (e : CellDecl) → slice_get ds j ≡ Some e → Each (Entails (value_at u (Declared (n + j)) e.cell)) (own_tokens (n + j) e i)
+  cells_tell : (u : StoreMap) (n : ℕ) (ds : List CellDecl) → AreCells p n ds → IsTrue (entails p [] u (all_tokens n ds i)) → (j : ℕ) (e : CellDecl) → slice_get ds j ≡ Some e → Each (Entails (value_at u (Declared (n + j)) e.cell)) (own_tokens (n + j) e i)
   cells_tell u n [] are h j e at = absurd (cc)
   cells_tell u n (d ∷ ds) are h zero e at =
       let here = first_cell p n d ds are in
@@ -177,7 +177,7 @@ module _ (p : CoreProgram) (names : HasOwnNames p) (i : Valuation) (is : IsStore
       (cells_tell u (suc n) ds (later_cells p n d ds are) (second_of_both (entails p [] u (cell_ask n (own_tokens n d i))) (entails p [] u (all_tokens (suc n) ds i)) split) j e at)
 
 -- the line of a store has 23,039 bytes at most
-pub line_short : (p : CoreProgram) (i : Valuation) → IsWellFormed p → HasOwnNames p → IsStore p i → length (store_line p i) ≤ 23039
+pub line_short : (p : CoreProgram) (i : StoreMap) → IsWellFormed p → HasOwnNames p → IsStore p i → length (store_line p i) ≤ 23039
 line_short p i program names is = go (cell_texts 0 (take p.declared p.cells) i) whole
   where
     whole : length (spaced (cell_texts 0 (take p.declared p.cells) i)) ≤ 23040
@@ -191,7 +191,7 @@ line_short p i program names is = go (cell_texts 0 (take p.declared p.cells) i) 
     go (text ∷ texts) h = omega (arith, ap length (spaced-join text texts), length-append (join_with_byte 32 (text ∷ texts)) (32 ∷ []))
 
 -- a store that entails the tokens of an input is above it
-input_below : (p : CoreProgram) (i u : Valuation) → HasOwnNames p → IsInput p i → IsStore p u → IsTrue (entails p [] u (all_tokens 0 (take p.declared p.cells) i)) → Below p i u
+input_below : (p : CoreProgram) (i u : StoreMap) → HasOwnNames p → IsInput p i → IsStore p u → IsTrue (entails p [] u (all_tokens 0 (take p.declared p.cells) i)) → Below p i u
 input_below p i u names input iu h (Declared m) d t named fits entailed =
     let place : 0 + m ≡ m = omega arith in
     let told : Each (Entails (value_at u (Declared m) d.cell)) (own_tokens m d i) =
@@ -207,7 +207,7 @@ input_below p i u names input iu h (Local m births) d t named fits entailed = go
     go (Some v) e at_value = let own = input.declared (Local m births) v e in let same : Local m births ≡ Declared own.0 = own.1 in absurd (cc)
 
 -- the line of a store gives the part of it over the declared cells
-pub line_read : (p : CoreProgram) (v i : Valuation) → IsWellFormed p → HasOwnNames p → IsDeclaredPart p v i → GivesInput p (store_line p v) i
+pub line_read : (p : CoreProgram) (v i : StoreMap) → IsWellFormed p → HasOwnNames p → IsDeclaredPart p v i → GivesInput p (store_line p v) i
 line_read p v i program names part =
     let cells : List CellDecl = take p.declared p.cells in
     let line : store_line p v ≡ store_line p i = ap (join_with_byte 32) (cells_same p v i part.same 0 (take p.declared p.cells) (declared_cells p)) in
@@ -221,7 +221,7 @@ line_read p v i program names part =
     })
 
 -- two inputs have two lines
-pub line_one : (p : CoreProgram) (v w : Valuation) → IsWellFormed p → HasOwnNames p → IsInput p v → IsInput p w → store_line p v ≡ store_line p w → v ≡ w
+pub line_one : (p : CoreProgram) (v w : StoreMap) → IsWellFormed p → HasOwnNames p → IsInput p v → IsInput p w → store_line p v ≡ store_line p w → v ≡ w
 line_one p v w program names iv iw e =
     one_input p (store_line p w) v w
     (subst (λ (bytes : List ℕ). GivesInput p bytes v) e (line_read p v v program names (record { input = iv; same = λ n lt. refl })))

@@ -5,7 +5,7 @@ use Rattle.std.proofs.lemmas.List.{append-nil}
 use Rattle.token_system.specs.declared.cell.Token.{Token}
 use Rattle.token_system.specs.declared.reading.Written.{Written}
 use Rattle.token_system.specs.Tokens.{token_fits}
-use Rattle.token_system.specs.Stores.{Valuation}
+use Rattle.token_system.specs.Stores.{StoreMap}
 use Rattle.token_system.proofs.OneReading.{one_reading}
 use Rattle.agent_core.specs.declared.node.CellDecl.{CellDecl}
 use Rattle.agent_core.specs.Agents.{Constraint}
@@ -21,7 +21,7 @@ pub AskFits-append : (p : CoreProgram) (b : List ℕ) (xs ys : Constraint) → C
 AskFits-append p b [] ys f g = g
 AskFits-append p b (x ∷ xs) ys f g = (f.0, AskFits-append p b xs ys f.1 g)
 
-pub tell_all-append : (p : CoreProgram) (b : List ℕ) (xs ys : Constraint) (u : Valuation) → tell_all p b (xs ++ ys) u ≡ tell_all p b ys (tell_all p b xs u)
+pub tell_all-append : (p : CoreProgram) (b : List ℕ) (xs ys : Constraint) (u : StoreMap) → tell_all p b (xs ++ ys) u ≡ tell_all p b ys (tell_all p b xs u)
 tell_all-append p b [] ys u = refl
 tell_all-append p b (x ∷ xs) ys u = tell_all-append p b xs ys (tell_at (slice_get p.cells x.0) p b u x.0 x.1)
 

@@ -15,7 +15,7 @@ use Rattle.token_system.specs.declared.cell.Value.TheVariants.{Clash}
 use Rattle.token_system.specs.declared.name.CellName.{CellName}
 use Rattle.token_system.specs.declared.name.CellName.TheVariants.{Declared, Local}
 use Rattle.token_system.specs.Names.{name_cmp}
-use Rattle.token_system.specs.Stores.{Valuation, value_at}
+use Rattle.token_system.specs.Stores.{StoreMap, value_at}
 use Rattle.token_system.specs.Values.{bottom_of}
 use Rattle.token_system.proofs.Adding.{value_eq-itself}
 use Rattle.token_system.proofs.Alike.{true_false}
@@ -131,7 +131,7 @@ texts-end cells e es s none = texts-beyond cells (e ∷ es) (here, all_less (len
 
 -- THE TEXTS OF THE CELLS ARE THOSE OF THE ENTRIES
 
-module _ (cells : List CellDecl) (v : Valuation) where
+module _ (cells : List CellDecl) (v : StoreMap) where
   -- what the store has for the cells from n on is what the entries have for them
   abbrev HoldsFrom : ℕ → List (CellName × Value) → Type 0
   HoldsFrom n es = (k : ℕ) → n ≤ k → map.get v (Declared k) ≡ find name_cmp (Declared k) es
@@ -185,7 +185,7 @@ module _ (cells : List CellDecl) (v : Valuation) where
       let tail : later ≡ drop (suc n) cells = cc in
       walk-step d later n es (slice_get-get_or cells n d within ∙ ap Some here) s from holds (λ es s from holds. walk later (suc n) es tail s from holds)
 
-pub cells-entries : (cells : List CellDecl) (v : Valuation) → cell_texts 0 cells v ≡ entry_texts cells (map.entries v)
+pub cells-entries : (cells : List CellDecl) (v : StoreMap) → cell_texts 0 cells v ≡ entry_texts cells (map.entries v)
 cells-entries cells v = walk cells v cells 0 (map.entries v) refl (map.entries_sorted v) (all_first (map.entries v)) (λ k le. map.get-entries v (Declared k))
 
 -- THE ENTRY AT A PLACE
@@ -195,7 +195,7 @@ sorted-drop zero es s = s
 sorted-drop (suc p) [] s = tt
 sorted-drop (suc p) (e ∷ es) s = sorted-drop p es (second_of_both _ _ s)
 
-module _ (v : Valuation) (p : ℕ) (n : CellName) (key : slice_get (map.keys v) p ≡ Some n) where
+module _ (v : StoreMap) (p : ℕ) (n : CellName) (key : slice_get (map.keys v) p ≡ Some n) where
   abbrev at_hand : CellName × Value
   at_hand = get_or (map.entries v) p (n, Clash)
 

@@ -10,7 +10,7 @@ use Rattle.std.proofs.lemmas.Grind.{flat_map-append}
 use Rattle.std.proofs.Math.Seq.{take-append_seam}
 use Rattle.token_system.specs.declared.cell.Value.{Value}
 use Rattle.token_system.specs.declared.cell.Token.TheVariants.{AtLeast, AtMost}
-use Rattle.token_system.specs.Stores.{Valuation}
+use Rattle.token_system.specs.Stores.{StoreMap}
 use Rattle.token_system.specs.Texts.{text_of}
 use Rattle.token_system.specs.declared.name.CellName.{CellName}
 use Rattle.agent_core.specs.declared.node.CellDecl.{CellDecl}
@@ -81,14 +81,14 @@ two_bounds name least most lo hi old middle now differ a b =
     ∙ ap (λ (z : List ℕ). old ++ z) (sym (spaced-append (text_if (int_lt least lo) (text_of name (AtLeast lo))) (text_if (int_lt hi most) (text_of name (AtMost hi)))) ∙ ap spaced (sym (other_bounds name least most lo hi differ)))
 
 -- the texts of the cells that the first names of the store name were written, and those of the others are left
-pub record CellsWritten (cells : List CellDecl) (v : Valuation) (place : ℕ) (start now : List ℕ) : Type 0 where
+pub record CellsWritten (cells : List CellDecl) (v : StoreMap) (place : ℕ) (start now : List ℕ) : Type 0 where
   pub rest : now ++ spaced (entry_texts cells (drop place (map.entries v))) ≡ start ++ spaced (cell_texts 0 cells v)
   pub grown : Grows start now
 
-pub cells-start : (cells : List CellDecl) (v : Valuation) (start : List ℕ) → CellsWritten cells v 0 start start
+pub cells-start : (cells : List CellDecl) (v : StoreMap) (start : List ℕ) → CellsWritten cells v 0 start start
 cells-start cells v start = record { rest = ap (λ (texts : List (List ℕ)). start ++ spaced texts) (sym (cells-entries cells v)); grown = Grows-refl start }
 
-module _ (cells : List CellDecl) (v : Valuation) (place : ℕ) (start now : List ℕ) (w : CellsWritten cells v place start now) where
+module _ (cells : List CellDecl) (v : StoreMap) (place : ℕ) (start now : List ℕ) (w : CellsWritten cells v place start now) where
   -- one name more
   pub cells-step : (n : CellName) (d : CellDecl) (x : Value) (after : List ℕ) → slice_get (map.keys v) place ≡ Some n → slice_get (map.values v) place ≡ Some x → cell_named cells n ≡ Some d
       → after ≡ now ++ spaced (value_texts d.name d.cell x) → CellsWritten cells v (place + 1) start after

@@ -7,7 +7,7 @@ use Rattle.token_system.specs.declared.cell.Token.{Token}
 use Rattle.token_system.specs.declared.reading.Written.{Written}
 use Rattle.token_system.specs.Tokens.{token_fits}
 use Rattle.token_system.specs.Texts.{IsTokenText}
-use Rattle.token_system.specs.Stores.{Valuation}
+use Rattle.token_system.specs.Stores.{StoreMap}
 use Rattle.agent_core.specs.declared.node.CellDecl.{CellDecl}
 use Rattle.agent_core.specs.Agents.{Constraint}
 use Rattle.agent_core.specs.Programs.{CoreProgram}
@@ -61,10 +61,10 @@ SayAll p [] tokens = tokens ≡ []
 SayAll p (piece ∷ later) tokens = (first rest : Constraint) × Says p piece.bytes first × SayAll p later rest × (tokens ≡ first ++ rest)
 
 -- the line is within the limit of bytes and gives the input: the least store that entails the tokens of its pieces
-pub record GivesInput (p : CoreProgram) (line : List ℕ) (i : Valuation) : Type 0 where
+pub record GivesInput (p : CoreProgram) (line : List ℕ) (i : StoreMap) : Type 0 where
   pub short : length line ≤ 32768
   pub tokens : Constraint
   pub said : SayAll p (pieces line) tokens
   pub input : IsInput p i
   pub tells : IsTrue (entails p [] i tokens)
-  pub least : (u : Valuation) → IsStore p u → IsTrue (entails p [] u tokens) → Below p i u
+  pub least : (u : StoreMap) → IsStore p u → IsTrue (entails p [] u tokens) → Below p i u

@@ -11,7 +11,7 @@ use Rattle.token_system.specs.declared.name.CellName.{CellName}
 use Rattle.token_system.specs.declared.name.CellName.TheVariants.{Declared, Local}
 use Rattle.token_system.specs.Texts.{text_of}
 use Rattle.token_system.specs.Values.{bottom_of, value_eq}
-use Rattle.token_system.specs.Stores.{Valuation, value_at}
+use Rattle.token_system.specs.Stores.{StoreMap, value_at}
 use Rattle.agent_core.specs.declared.node.CellDecl.{CellDecl}
 use Rattle.agent_core.specs.Programs.{CoreProgram}
 
@@ -42,7 +42,7 @@ abbrev pub value_texts : List ℕ → Cell → Value → List (List ℕ)
 value_texts name c v = if value_eq v (bottom_of c) then [] else told_texts name c v
 
 -- the texts of these cells, of which the first has number n
-abbrev pub cell_texts : ℕ → List CellDecl → Valuation → List (List ℕ)
+abbrev pub cell_texts : ℕ → List CellDecl → StoreMap → List (List ℕ)
 cell_texts n [] v = []
 cell_texts n (d ∷ later) v = value_texts d.name d.cell (value_at v (Declared n) d.cell) ++ cell_texts (suc n) later v
 
@@ -51,5 +51,5 @@ abbrev pub cell_named : List CellDecl → CellName → Option CellDecl
 cell_named cells (Declared n) = slice_get cells n
 cell_named cells (Local node births) = None
 
-abbrev pub store_line : CoreProgram → Valuation → List ℕ
+abbrev pub store_line : CoreProgram → StoreMap → List ℕ
 store_line p v = join_with_byte 32 (cell_texts 0 (take p.declared p.cells) v)

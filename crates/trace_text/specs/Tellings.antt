@@ -1,7 +1,7 @@
 -- The store after a token, or those of a piece, are told. This project's own.
 use Rattle.std.specs.Prelude.{◌≡◌, ℕ, List, [], slice_get}
 use Rattle.token_system.specs.declared.cell.Token.{Token}
-use Rattle.token_system.specs.Stores.{Valuation}
+use Rattle.token_system.specs.Stores.{StoreMap}
 use Rattle.agent_core.specs.Agents.{Constraint}
 use Rattle.agent_core.specs.Programs.{CoreProgram}
 use Rattle.agent_core.specs.Tellings.{tell_at, tell_all}
@@ -9,17 +9,17 @@ use Rattle.trace_text.specs.Pieces.{Piece}
 use Rattle.trace_text.specs.Inputs.{Says, SayAll}
 
 -- the store after the token of a declared cell is told
-abbrev pub told_one : CoreProgram → ℕ × Token → Valuation → Valuation
+abbrev pub told_one : CoreProgram → ℕ × Token → StoreMap → StoreMap
 told_one p pair u = tell_at (slice_get p.cells pair.0) p [] u pair.0 pair.1
 
 -- the bytes say some tokens, and these are told
-pub record TellsPiece (p : CoreProgram) (bytes : List ℕ) (old new : Valuation) : Type 0 where
+pub record TellsPiece (p : CoreProgram) (bytes : List ℕ) (old new : StoreMap) : Type 0 where
   pub tokens : Constraint
   pub said : Says p bytes tokens
   pub told : new ≡ tell_all p [] tokens old
 
 -- each of the pieces says some tokens, and these are told in order
-pub record TellsPieces (p : CoreProgram) (all : List Piece) (old new : Valuation) : Type 0 where
+pub record TellsPieces (p : CoreProgram) (all : List Piece) (old new : StoreMap) : Type 0 where
   pub tokens : Constraint
   pub said : SayAll p all tokens
   pub told : new ≡ tell_all p [] tokens old

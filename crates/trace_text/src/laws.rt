@@ -1,6 +1,6 @@
 //! Laws of lines. Each is a function that computes nothing, and its contract is the law.
 ghost use Rattle.std.specs.Prelude.{◌≡◌, ◌≤◌, ℕ, List, All, length};
-ghost use Rattle.token_system.specs.Stores.{Valuation};
+ghost use Rattle.token_system.specs.Stores.{StoreMap};
 ghost use Rattle.agent_core.specs.WellFormed.{IsWellFormed};
 ghost use Rattle.agent_core.specs.Programs.{CoreProgram};
 ghost use Rattle.agent_core.specs.Stores.{IsInput};
@@ -18,11 +18,11 @@ pub fn reading_law()
 /// Where the declared cells have names of their own, the line of a store gives the part of it that
 /// is over the declared cells, and two stores over the declared cells have two lines.
 pub fn writing_law()
-    ensures reads_back { (p : CoreProgram) (v i : Valuation) → IsWellFormed p → HasOwnNames p
+    ensures reads_back { (p : CoreProgram) (v i : StoreMap) → IsWellFormed p → HasOwnNames p
         → IsDeclaredPart p v i → GivesInput p (store_line p v) i }
-    ensures two_lines { (p : CoreProgram) (v w : Valuation) → IsWellFormed p → HasOwnNames p
+    ensures two_lines { (p : CoreProgram) (v w : StoreMap) → IsWellFormed p → HasOwnNames p
         → IsInput p v → IsInput p w → store_line p v ≡ store_line p w → v ≡ w }
-    ensures short { (p : CoreProgram) (v : Valuation) → IsWellFormed p → HasOwnNames p → IsInput p v
+    ensures short { (p : CoreProgram) (v : StoreMap) → IsWellFormed p → HasOwnNames p → IsInput p v
         → length (store_line p v) ≤ 23039 }
 {}
 

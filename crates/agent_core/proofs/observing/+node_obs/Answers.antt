@@ -2,7 +2,7 @@ use Rattle.std.proofs.Common.{◌≡◌, ◌+◌, ◌-◌, List, [], ◌∷◌, 
 use Rattle.std.specs.List.{All, list_all}
 use Rattle.std.proofs.lemmas.List.{take_rest}
 use Rattle.std.proofs.lemmas.List.Elements.{All-drop, All-head, All-rest}
-use Rattle.token_system.specs.Stores.{Valuation}
+use Rattle.token_system.specs.Stores.{StoreMap}
 use Rattle.agent_core.specs.declared.node.Node.TheVariants as nodes
 use Rattle.agent_core.specs.Names.{IsClosure}
 use Rattle.agent_core.specs.Stores.{IsStore}
@@ -21,7 +21,7 @@ hence_obs-node_obs-requires t c =
         c.requires.closure,
         (
           subst (All (IsStore c.args.program.now)) (sym same) (All-drop (IsStore c.args.program.now) c.loop-k.k c.args.closed.now c.requires.closed),
-          (omega (arith, ap (λ (z : List Valuation). length z) same, length-drop c.loop-k.k c.args.closed.now), (c.requires.store, c.requires.guess)),
+          (omega (arith, ap (λ (z : List StoreMap). length z) same, length-drop c.loop-k.k c.args.closed.now), (c.requires.store, c.requires.guess)),
         ),
       ),
     )
@@ -29,7 +29,7 @@ hence_obs-node_obs-requires t c =
 pub hence_obs-loop-k-preserved : goal.hence_obs-loop-k-preserved
 hence_obs-loop-k-preserved t c =
     AreLeft-next c.args.program.now c.args.node c.args.births.now c.args.start c.args.closed.now c.args.u.now c.args.v.now c.loop-k.k c.loop-k.invariant c.loop-k-test.true
-    (sym c.if-not-rests.false ∙ c.in_ok-rests.ensures ∙ ap (λ (z : List Valuation). obs c.args.program.now c.args.node c.args.births.now (c.args.start + c.loop-k.k) z c.args.u.now c.args.v.now) (take_rest c.args.closed.now c.loop-k.k))
+    (sym c.if-not-rests.false ∙ c.in_ok-rests.ensures ∙ ap (λ (z : List StoreMap). obs c.args.program.now c.args.node c.args.births.now (c.args.start + c.loop-k.k) z c.args.u.now c.args.v.now) (take_rest c.args.closed.now c.loop-k.k))
 
 pub node_obs-node_obs-requires : goal.node_obs-node_obs-requires
 node_obs-node_obs-requires t c =

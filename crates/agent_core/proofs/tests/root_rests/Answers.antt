@@ -1,5 +1,5 @@
 use Rattle.std.proofs.Common.{sym, subst}
-use Rattle.token_system.specs.Stores.{Valuation}
+use Rattle.token_system.specs.Stores.{StoreMap}
 use Rattle.agent_core.specs.Stores.{IsStore, Below}
 use Rattle.agent_core.proofs.Tellings.{empty-IsStore, empty-Below}
 use Rattle.agent_core.proofs.tests.root_rests.Goals as goal
@@ -14,4 +14,4 @@ pub rests-requires-2-clause-store : goal.rests-requires-2-clause-store
 rests-requires-2-clause-store c = subst (IsStore c.args.program.now) (sym c.new-empty.ensures) (empty-IsStore c.args.program.now)
 
 pub rests-requires-2-clause-below : goal.rests-requires-2-clause-below
-rests-requires-2-clause-below c = subst (λ (x : Valuation). Below c.args.program.now x c.args.on.now) (sym c.new-empty.ensures) (empty-Below c.args.program.now c.args.on.now c.requires.store)
+rests-requires-2-clause-below c = subst (λ (x : StoreMap). Below c.args.program.now x c.args.on.now) (sym c.new-empty.ensures) (empty-Below c.args.program.now c.args.on.now c.requires.store)

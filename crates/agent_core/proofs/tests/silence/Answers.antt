@@ -1,11 +1,11 @@
 use Rattle.std.proofs.Common.{All, List, [], ◌∷◌, length, sym, ap, subst, arith, length-append}
 use Rattle.std.proofs.lemmas.List.Elements.{All-push}
-use Rattle.token_system.specs.Stores.{Valuation}
+use Rattle.token_system.specs.Stores.{StoreMap}
 use Rattle.agent_core.specs.Stores.{IsStore}
 use Rattle.agent_core.proofs.tests.silence.Goals as goal
 
 pub loop-preserved : goal.loop-preserved
 loop-preserved c = record {
   stores = subst (All (IsStore c.args.program.now)) (sym c.in_ok-push.ensures.items) (All-push (IsStore c.args.program.now) c.loop.closed.items c.nothing.result c.loop.invariant.stores c.nothing.ensures);
-  long = omega (arith, ap (λ (z : List Valuation). length z) c.in_ok-push.ensures.items, length-append c.loop.closed.items (c.nothing.result ∷ []), c.loop.invariant.long);
+  long = omega (arith, ap (λ (z : List StoreMap). length z) c.in_ok-push.ensures.items, length-append c.loop.closed.items (c.nothing.result ∷ []), c.loop.invariant.long);
 }

@@ -1,5 +1,5 @@
 use Rattle.std.proofs.Common.{◌≡◌, ◌+◌, false, cond}
-use Rattle.token_system.specs.Stores.{Valuation}
+use Rattle.token_system.specs.Stores.{StoreMap}
 use Rattle.agent_core.specs.Outputs.{IsOutput}
 use Rattle.agent_core.specs.Stores.{IsStore}
 use Rattle.agent_core.specs.Strata.{Each}
@@ -11,7 +11,7 @@ use Rattle.denotation_laws.proofs.slow.complete_stratum.Given as goal
 abbrev pub invariant-loop-told : goal.invariant-loop-told
 invariant-loop-told l = record {
   store : IsStore l.program l.store;
-  way : (i v : Valuation) → IsOutput l.program l.closed i v → IsOnWay l.program l.levels i v l.stratum l.fn.store → IsOnWay l.program l.levels i v l.stratum l.store;
+  way : (i v : StoreMap) → IsOutput l.program l.closed i v → IsOnWay l.program l.levels i v l.stratum l.fn.store → IsOnWay l.program l.levels i v l.stratum l.store;
   calm : l.told ≡ false → Each (λ x. is_due l.program l.levels l.stratum l.store x ≡ false) (leaves_now l.program l.closed);
 }
 

@@ -1,6 +1,6 @@
 use Rattle.std.proofs.Common.{List, [], ◌+◌, length, take, All, sym, ap, subst, arith}
 use Rattle.std.proofs.lemmas.List.Elements.{All-push, All-nil}
-use Rattle.token_system.specs.Stores.{Valuation}
+use Rattle.token_system.specs.Stores.{StoreMap}
 use Rattle.agent_core.specs.Outputs.{IsOutput, IsRun}
 use Rattle.agent_core.specs.Stores.{IsStore}
 use Rattle.denotation_laws.proofs.Runs.{no_run, input-store, run-more, run-whole, run-few}
@@ -18,7 +18,7 @@ output-requires-clause-closed c = subst (All (IsStore c.args.program.now)) (sym 
 pub output-requires-clause-few : goal.output-requires-clause-few
 output-requires-clause-few c =
     let few = c.requires.few in
-    let same = ap (λ (z : List Valuation). length z) c.deref.ensures.value in
+    let same = ap (λ (z : List StoreMap). length z) c.deref.ensures.value in
     let long = run-few c.args.program.now c.args.ins.now c.loop-input.outs.items c.loop-input.input-index c.loop-input.invariant.run in
     omega arith
 
@@ -27,7 +27,7 @@ output-requires-clause-input c = input-store c.args.program.now c.args.ins.now c
 
 pub loop-input-preserved : goal.loop-input-preserved
 loop-input-preserved c =
-    let out = subst (λ (z : List Valuation). IsOutput c.args.program.now z c.input-item.result c.in_ok-store.store) c.deref.ensures.value c.in_ok-store.ensures in
+    let out = subst (λ (z : List StoreMap). IsOutput c.args.program.now z c.input-item.result c.in_ok-store.store) c.deref.ensures.value c.in_ok-store.ensures in
     record {
       run = subst (IsRun c.args.program.now (take (c.loop-input.input-index + 1) c.args.ins.now)) (sym c.in_ok-push.ensures.items)
           (run-more c.args.program.now c.args.ins.now c.loop-input.outs.items c.loop-input.input-index c.loop-input-test.true c.input-item.result c.input-item.is c.in_ok-store.store c.loop-input.invariant.run out);

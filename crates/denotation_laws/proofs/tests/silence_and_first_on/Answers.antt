@@ -1,6 +1,6 @@
 use Rattle.std.proofs.Common.{All, List, [], ◌∷◌, length, sym, ap, subst, arith, length-append}
 use Rattle.std.proofs.lemmas.List.Elements.{All-push}
-use Rattle.token_system.specs.Stores.{Valuation}
+use Rattle.token_system.specs.Stores.{StoreMap}
 use Rattle.agent_core.specs.Stores.{IsInput}
 use Rattle.denotation_laws.proofs.tests.silence_and_first_on.Goals as goal
 
@@ -10,4 +10,4 @@ returns-clause-inputs c =
 
 pub returns-clause-few : goal.returns-clause-few
 returns-clause-few c =
-    omega (arith, ap (λ (z : List Valuation). length z) c.in_ok-push.ensures.items, length-append c.in_ok-ins.ins.items (c.in_ok-on.on ∷ []), c.in_ok-ins.ensures.few)
+    omega (arith, ap (λ (z : List StoreMap). length z) c.in_ok-push.ensures.items, length-append c.in_ok-ins.ins.items (c.in_ok-on.on ∷ []), c.in_ok-ins.ensures.few)

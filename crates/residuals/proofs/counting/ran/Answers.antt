@@ -1,5 +1,5 @@
 use Rattle.std.proofs.Common.{◌≡◌, ◌+◌, Bool, cond, sym, ap, ◌∙◌, arith}
-use Rattle.token_system.specs.Stores.{Valuation}
+use Rattle.token_system.specs.Stores.{StoreMap}
 use Rattle.instant_net.specs.declared.parts.NetLeaf.{NetLeaf}
 use Rattle.instant_net.specs.NamedLeaves.{runs}
 use Rattle.instant_net.specs.Nets.{named_leaf}
@@ -12,7 +12,7 @@ use Rattle.residuals.proofs.counting.ran.Goals.{then-runs, else-runs}
 pub loop-leaf-preserved : goal.loop-leaf-preserved
 loop-leaf-preserved c =
     let net = c.args.net.now in
-    let w : Valuation = store_in c.args.net.now.cells c.args.words.now in
+    let w : StoreMap = store_in c.args.net.now.cells c.args.words.now in
     let ran : c.if-runs.ran ≡ c.loop-leaf.ran + cond c.runs.result 1 0 =
     elim c.if-runs.branch [
       | then-runs v ↦ v.ran-is ∙ ap (λ (b : Bool). c.loop-leaf.ran + cond b 1 0) (sym v.if-runs.true)
@@ -23,5 +23,5 @@ loop-leaf-preserved c =
 pub returns-clause-counts : goal.returns-clause-counts
 returns-clause-counts c = λ p table rs t of.
     let net = c.args.net.now in
-    let w : Valuation = store_in c.args.net.now.cells c.args.words.now in
+    let w : StoreMap = store_in c.args.net.now.cells c.args.words.now in
     passed-all (λ (x : NetLeaf). runs w (named_leaf net x)) net.leaves c.loop-leaf.leaf c.loop-leaf.ran (omega arith) c.loop-leaf.invariant ∙ net-ran p table rs t net of w

@@ -1,5 +1,5 @@
 use Rattle.std.proofs.Common.{◌≡◌, ◌<◌, ◌++◌, ◌∷◌, [], List, length, sym, ap, ◌∙◌, subst, arith}
-use Rattle.token_system.specs.Stores.{Valuation}
+use Rattle.token_system.specs.Stores.{StoreMap}
 use Rattle.agent_core.specs.declared.node.Closure.{Closure}
 use Rattle.instant_net.specs.Words.{store_in}
 use Rattle.residuals.specs.RootLists.{AreRootLists}
@@ -11,14 +11,14 @@ use Rattle.residuals.proofs.next.next_roots.Goals.{then-runs+in_ok-started+then-
 
 pub loop-leaf-preserved-in_default : goal.loop-leaf-preserved-in_default
 loop-leaf-preserved-in_default c =
-    let w : Valuation = store_in c.args.net.now.cells c.args.words.now in
+    let w : StoreMap = store_in c.args.net.now.cells c.args.words.now in
     let count = c.leaves-leaf-end.ensures.count in
     let lt : c.loop-leaf.leaf < length c.args.net.now.leaves = omega arith in
     begun-none c.args.net.now w _ _ _ c.loop-leaf.leaf c.loop-leaf.invariant lt c.in_default.ensures
 
 pub loop-leaf-preserved : goal.loop-leaf-preserved
 loop-leaf-preserved c =
-    let w : Valuation = store_in c.args.net.now.cells c.args.words.now in
+    let w : StoreMap = store_in c.args.net.now.cells c.args.words.now in
     let count = c.leaves-leaf-end.ensures.count in
     let lt : c.loop-leaf.leaf < length c.args.net.now.leaves = omega arith in
     let old : List Closure = c.args.roots.now.stay in
@@ -40,7 +40,7 @@ loop-leaf-preserved c =
 pub make-requires : goal.make-requires
 make-requires c =
     let net = c.args.net.now in
-    let w : Valuation = store_in c.args.net.now.cells c.args.words.now in
+    let w : StoreMap = store_in c.args.net.now.cells c.args.words.now in
     let made : record { once = c.sort.new.closures.items; stay = c.sort-2.new.closures.items } ≡ next_lists net w c.args.roots.now =
     begun-all net w c.args.roots.now _ _ _ _ _ c.loop-leaf.invariant (let count = c.leaves-leaf-end.ensures.count in omega arith) c.in_ok-sort.ensures c.in_ok-sort-2.ensures in
     subst AreRootLists (sym made) (lists-keep net w c.args.roots.now c.leaves-leaf-end.ensures.net c.requires.net)
@@ -48,7 +48,7 @@ make-requires c =
 pub returns-clause-follow : goal.returns-clause-follow
 returns-clause-follow c =
     let net = c.args.net.now in
-    let w : Valuation = store_in c.args.net.now.cells c.args.words.now in
+    let w : StoreMap = store_in c.args.net.now.cells c.args.words.now in
     let made : c.make.result ≡ next_lists net w c.args.roots.now =
     c.make.ensures ∙ begun-all net w c.args.roots.now _ _ _ _ _ c.loop-leaf.invariant (let count = c.leaves-leaf-end.ensures.count in omega arith) c.in_ok-sort.ensures c.in_ok-sort-2.ensures in
     subst (FollowRoots net w c.args.roots.now) (sym made) (lists-follow net w c.args.roots.now)

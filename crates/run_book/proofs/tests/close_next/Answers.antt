@@ -1,7 +1,7 @@
 use Rattle.std.proofs.Common.{◌≡◌, ℕ, List, Some, None, sym, ◌∙◌, subst}
 use Rattle.std.specs.FinMap.{empty, get-empty}
 use Rattle.token_system.specs.Names.{name_cmp}
-use Rattle.token_system.specs.Stores.{Valuation}
+use Rattle.token_system.specs.Stores.{StoreMap}
 use Rattle.agent_core.specs.Programs.{CoreProgram}
 use Rattle.agent_core.specs.Stores.{IsInput}
 use Rattle.instant_net.specs.Opened.{IsNetOf}
@@ -10,7 +10,7 @@ use Rattle.run_book.proofs.SettledNets.{given_net, settled_net}
 use Rattle.run_book.proofs.tests.close_next.Goals as goal
 
 -- of which nothing is told is an input
-none-input : (p : CoreProgram) (i : Valuation) → i ≡ empty → IsInput p i
+none-input : (p : CoreProgram) (i : StoreMap) → i ≡ empty → IsInput p i
 none-input p i same = subst (IsInput p) (sym same) (record {
   store = λ n v e. absurd (let f : None ≡ Some v = sym (get-empty name_cmp n) ∙ e in cc);
   declared = λ n v e. absurd (let f : None ≡ Some v = sym (get-empty name_cmp n) ∙ e in cc);

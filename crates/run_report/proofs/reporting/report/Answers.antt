@@ -1,5 +1,5 @@
 use Rattle.std.proofs.Common.{ap, ◌∙◌, arith}
-use Rattle.token_system.specs.Stores.{Valuation}
+use Rattle.token_system.specs.Stores.{StoreMap}
 use Rattle.instant_net.specs.Words.{store_in}
 use Rattle.run_report.specs.declared.counts.Report.{Report}
 use Rattle.run_report.proofs.AskCounts.{counts-unreached, counts-reached, report-is}
@@ -9,7 +9,7 @@ use Rattle.run_report.proofs.reporting.report.Goals.{then-reaches, else-reaches}
 pub loop-guard-preserved : goal.loop-guard-preserved
 loop-guard-preserved c =
     let net = c.args.net.now in
-    let w : Valuation = store_in c.args.net.now.cells c.args.words.now in
+    let w : StoreMap = store_in c.args.net.now.cells c.args.words.now in
     let i = c.loop-guard.guard in
     let before = c.loop-guard.counts in
     let after = c.if-reaches.counts in
@@ -33,6 +33,6 @@ loop-guard-preserved c =
 pub returns : goal.returns
 returns c = λ p table rs t of.
     let net = c.args.net.now in
-    let w : Valuation = store_in c.args.net.now.cells c.args.words.now in
+    let w : StoreMap = store_in c.args.net.now.cells c.args.words.now in
     let so = c.loop-guard.invariant in
     report-is net w c.loop-guard.counts c.loop-guard.guard (omega arith) so.asks p table rs t c.args.next of (so.ran ∙ c.ran.ensures.counts p table rs t of) so.next

@@ -4,7 +4,7 @@ use Rattle.std.specs.Option.{option_copied}
 use Rattle.std.specs.List.{range_with_len, sum_by}
 use Rattle.std.specs.declared.alloc.Global.{Global}
 use Rattle.std.proofs.lemmas.List.{append-nil}
-use Rattle.token_system.specs.Stores.{Valuation}
+use Rattle.token_system.specs.Stores.{StoreMap}
 use Rattle.agent_core.specs.Programs.{CoreProgram}
 use Rattle.trace_text.specs.StoreLines.{store_line}
 use Rattle.tdcc_tool.specs.Writings as writings
@@ -17,7 +17,7 @@ pub returns : goal.returns
 returns c = λ full kept spent.
     let p : CoreProgram = c.args.book.now.program in
     let outs = c.outs-outs.ensures.outs in
-    let last = c.last.ensures.value ∙ ap (λ (vs : List Valuation). slice_get vs (length vs - 1)) outs in
+    let last = c.last.ensures.value ∙ ap (λ (vs : List StoreMap). slice_get vs (length vs - 1)) outs in
     let line = last-declared p full c.args.book.now.outs (option_copied c.last.result) kept.declared last in
     let instants = c.from.ensures ∙ c.instants.ensures ∙ sym kept.run.whole in
     let cells = c.declared.ensures.number ∙ ap (λ (q : CoreProgram). q.declared) c.program.ensures.program in
@@ -35,7 +35,7 @@ returns c = λ full kept spent.
     elim c.match-last.branch [
       | in-Some+in_ok-write_store w ↦
           ap (λ (x : Vec ℕ Global). x.items) w.line-is ∙ w.in_ok-write_store.ensures.ok ∙ ap (λ (q : CoreProgram). base ++ store_line q w.in-Some.store.now) w.program-in-Some.ensures.program
-          ∙ ap (λ (o : Option (Bor Valuation)). base ++ line_if p (option_copied o)) (sym w.in-Some.is)
+          ∙ ap (λ (o : Option (Bor StoreMap)). base ++ line_if p (option_copied o)) (sym w.in-Some.is)
       | in_default w ↦ ap (λ (x : Vec ℕ Global). x.items) w.line-is ∙ sym (append-nil base) ∙ ap (λ (xs : List ℕ). base ++ xs) (sym (no_line p c.last.result w.in_default.not-Some))
     ] in
     let five = text ∙ ap (λ (xs : List ℕ). base ++ xs) (sym line) ∙ ap (λ (xs : List ℕ). xs ++ last_line p full) four in

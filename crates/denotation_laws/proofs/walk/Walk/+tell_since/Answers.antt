@@ -2,7 +2,7 @@ use Rattle.std.proofs.Common.{◌≡◌, ◌-◌, true, false, refl, List, [], �
 use Rattle.std.specs.List.{All}
 use Rattle.std.proofs.lemmas.List.{take_rest}
 use Rattle.std.proofs.lemmas.List.Elements.{All-drop, All-head, All-rest}
-use Rattle.token_system.specs.Stores.{Valuation}
+use Rattle.token_system.specs.Stores.{StoreMap}
 use Rattle.agent_core.specs.declared.node.Node.TheVariants as nodes
 use Rattle.agent_core.specs.Names.{IsClosure}
 use Rattle.agent_core.specs.Stores.{IsStore}
@@ -23,7 +23,7 @@ tell_hence-tell_since-requires t c =
         c.requires.closure,
         (
           subst (All (IsStore c.args.self.now.program.now)) (sym same) (All-drop (IsStore c.args.self.now.program.now) c.loop-k.k c.args.closed.now c.requires.closed),
-          (omega (arith, ap (λ (z : List Valuation). length z) same, length-drop c.loop-k.k c.args.closed.now), subst (IsStore c.args.self.now.program.now) (sym c.loop-k.invariant.same) c.requires.store),
+          (omega (arith, ap (λ (z : List StoreMap). length z) same, length-drop c.loop-k.k c.args.closed.now), subst (IsStore c.args.self.now.program.now) (sym c.loop-k.invariant.same) c.requires.store),
         ),
       ),
     )

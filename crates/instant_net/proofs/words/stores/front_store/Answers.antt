@@ -2,7 +2,7 @@ use Rattle.std.proofs.Common.{◌≡◌, None, sym, ap, ◌∙◌, subst, arith,
 use Rattle.std.specs.FinMap.{get}
 use Rattle.token_system.specs.declared.cell.Cell.{Cell}
 use Rattle.token_system.specs.declared.name.CellName.{CellName}
-use Rattle.token_system.specs.Stores.{Valuation, stored}
+use Rattle.token_system.specs.Stores.{StoreMap, stored}
 use Rattle.token_system.specs.Values.{IsValueOf}
 use Rattle.instant_net.specs.Words.{store_in}
 use Rattle.instant_net.proofs.KeptValues.{place_read, absent_yet, store_in-more}
@@ -22,7 +22,7 @@ keep-requires-clause-value c =
 pub loop-place-preserved : goal.loop-place-preserved
 loop-place-preserved c =
     let r = place_read c.args.net.now.cells c.loop-place.place c.cell_name.result.now c.cell.result c.cell_name.ensures c.cell.ensures.cell in
-    let before : Valuation = store_in (take c.loop-place.place c.args.net.now.cells) c.args.words.now in
+    let before : StoreMap = store_in (take c.loop-place.place c.args.net.now.cells) c.args.words.now in
     c.in_ok-keep.ensures
     ∙ ap (λ s. stored s c.in_ok-name.name c.cell.result c.value.result) c.loop-place.invariant
     ∙ ap (λ n. stored before n c.cell.result c.value.result) (c.in_ok-name.ensures ∙ sym r.same_name)

@@ -1,5 +1,5 @@
 use Rattle.std.proofs.Common.{◌<◌, ◌+◌, ℕ, Err, refl, sym, ap, ◌∙◌, subst, arith}
-use Rattle.token_system.specs.Stores.{Valuation}
+use Rattle.token_system.specs.Stores.{StoreMap}
 use Rattle.instant_net.specs.Words.{store_in}
 use Rattle.residuals.specs.RootLists.{listed}
 use Rattle.tdcc_tool.proofs.CourseSteps.{over-net, over-fuel, goes-on}
@@ -17,7 +17,7 @@ overflow_add-spent c = let within = c.args.self.now.within in let fuel = within.
 pub returns-then-spent-from : goal.returns-then-spent-from
 returns-then-spent-from c =
     let b = c.args.self.now.book in
-    let v : Valuation = store_in c.in-Ok.found.0.cells c.in-Ok.found.1 in
+    let v : StoreMap = store_in c.in-Ok.found.0.cells c.in-Ok.found.1 in
     let counted = ap (λ (k : ℕ). c.args.self.now.spent + k) (c.ran.ensures.counts b.program b.levels (listed b.roots) _ c.in-Ok.ensures.net) in
     let fuel = c.from.ensures in
     let over = c.if-spent-from.true in
@@ -26,7 +26,7 @@ returns-then-spent-from c =
 pub returns : goal.returns
 returns c =
     let b = c.args.self.now.book in
-    let v : Valuation = store_in c.in-Ok.found.0.cells c.in-Ok.found.1 in
+    let v : StoreMap = store_in c.in-Ok.found.0.cells c.in-Ok.found.1 in
     let counted = ap (λ (k : ℕ). c.args.self.now.spent + k) (c.ran.ensures.counts b.program b.levels (listed b.roots) _ c.in-Ok.ensures.net) in
     let fuel = c.from.ensures in
     let within = c.if-spent-from.false in
