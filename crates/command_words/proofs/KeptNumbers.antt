@@ -6,7 +6,7 @@ use Rattle.std.proofs.lemmas.List.Elements.{Contains-append_left, Contains-push,
 use Rattle.command_words.specs.declared.settings.Setting.{Setting}
 use Rattle.command_words.specs.declared.settings.Setting.TheVariants.{Workers, Fuel, Net}
 use Rattle.command_words.specs.declared.settings.Settings.{Settings}
-use Rattle.command_words.specs.Settings.{AreOnce, IsLimit, Keeps, KeepsNumber, flag_of, number_in}
+use Rattle.command_words.specs.Settings.{AreOnce, IsLimit, KeepsSettings, KeepsNumber, flag_of, number_in}
 use Rattle.command_words.proofs.OnceSettings.{not_twice, once_more}
 use Rattle.command_words.proofs.SettingWords.{one_by_flag}
 
@@ -50,7 +50,7 @@ second_number set ss n None flags kept e = cc
 second_number set ss n (Some k) flags kept e = not_twice ss (set n) (set k) ((kept k).1 refl) (flags k)
 
 -- the number of workers is set
-pub keeps_workers : (kept : Settings) (ss : List Setting) (n : ℕ) → kept.workers ≡ None → Keeps kept ss → Keeps (record kept { workers = Some n }) (ss ++ Workers n ∷ [])
+pub keeps_workers : (kept : Settings) (ss : List Setting) (n : ℕ) → kept.workers ≡ None → KeepsSettings kept ss → KeepsSettings (record kept { workers = Some n }) (ss ++ Workers n ∷ [])
 keeps_workers kept ss n none keeps =
     let new = subst (KeepsNumber ss Workers) none keeps.workers in
     record {
@@ -61,7 +61,7 @@ keeps_workers kept ss n none keeps =
     }
 
 -- the fuel is set
-pub keeps_fuel : (kept : Settings) (ss : List Setting) (n : ℕ) → kept.fuel ≡ None → Keeps kept ss → Keeps (record kept { fuel = Some n }) (ss ++ Fuel n ∷ [])
+pub keeps_fuel : (kept : Settings) (ss : List Setting) (n : ℕ) → kept.fuel ≡ None → KeepsSettings kept ss → KeepsSettings (record kept { fuel = Some n }) (ss ++ Fuel n ∷ [])
 keeps_fuel kept ss n none keeps =
     let new = subst (KeepsNumber ss Fuel) none keeps.fuel in
     record {
@@ -72,7 +72,7 @@ keeps_fuel kept ss n none keeps =
     }
 
 -- the limit of the net is set
-pub keeps_net : (kept : Settings) (ss : List Setting) (n : ℕ) → kept.net ≡ None → Keeps kept ss → Keeps (record kept { net = Some n }) (ss ++ Net n ∷ [])
+pub keeps_net : (kept : Settings) (ss : List Setting) (n : ℕ) → kept.net ≡ None → KeepsSettings kept ss → KeepsSettings (record kept { net = Some n }) (ss ++ Net n ∷ [])
 keeps_net kept ss n none keeps =
     let new = subst (KeepsNumber ss Net) none keeps.net in
     record {

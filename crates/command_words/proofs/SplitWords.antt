@@ -3,14 +3,14 @@ use Rattle.std.proofs.Common.{◌≡◌, ℕ, ◌-◌, ◌≤◌, List, [], ◌�
 use Rattle.command_words.specs.declared.settings.Limits.{Limits}
 use Rattle.command_words.specs.declared.settings.Setting.{Setting}
 use Rattle.command_words.specs.declared.settings.Settings.{Settings}
-use Rattle.command_words.specs.Settings.{AreLimits, AreOnce, AreSettings, IsSetting, Keeps, SaysLimits}
+use Rattle.command_words.specs.Settings.{AreLimits, AreOnce, AreSettings, IsSetting, KeepsSettings, SaysLimits}
 use Rattle.command_words.proofs.OnceSettings.{once_front}
 use Rattle.command_words.proofs.SettingWords.{one_setting}
 
 -- these settings are read and kept, and the words are settings where the rest is
 pub record IsSplit (words rest : List (List ℕ)) (kept : Settings) : Type 0 where
   pub read : List Setting
-  pub keeps : Keeps kept read
+  pub keeps : KeepsSettings kept read
   pub joins : (more : List Setting) → AreSettings rest more → AreSettings words (read ++ more)
   pub splits : (all : List Setting) → AreSettings words all → (more : List Setting) × AreSettings rest more × (all ≡ read ++ more)
 
@@ -27,7 +27,7 @@ all_next words rest flag number kept s all x is are =
     (next.0, next.1, more.2 ∙ ap (λ ts. x.read ++ ts) next.2 ∙ sym (append_assoc x.read (s ∷ []) next.0))
 
 -- one more setting is read
-one_more_read : (words rest : List (List ℕ)) (flag number : List ℕ) (kept more : Settings) (s : Setting) → (x : IsSplit words (flag ∷ number ∷ rest) kept) → IsSetting flag number s → Keeps more (x.read ++ s ∷ []) → IsSplit words rest more
+one_more_read : (words rest : List (List ℕ)) (flag number : List ℕ) (kept more : Settings) (s : Setting) → (x : IsSplit words (flag ∷ number ∷ rest) kept) → IsSetting flag number s → KeepsSettings more (x.read ++ s ∷ []) → IsSplit words rest more
 one_more_read words rest flag number kept more s x is keeps = record {
   read = x.read ++ s ∷ [];
   keeps = keeps;
@@ -51,20 +51,20 @@ first_two _ a b long e e' = absurd (omega arith)
 module _ {X : Type 0} (text : X → List ℕ) where
   -- the next two words are read
   pub two_read : (words : List (List ℕ)) (rest : List X) (flag number : X) (kept more : Settings) (s : Setting) → 2 ≤ length rest → flag ≡ get_or rest 0 flag → number ≡ get_or rest 1 number
-      → IsSplit words (map text rest) kept → IsSetting (text flag) (text number) s → ((ss : List Setting) → Keeps kept ss → Keeps more (ss ++ s ∷ [])) → IsSplit words (map text (take (length rest - 2) (drop 2 rest))) more
+      → IsSplit words (map text rest) kept → IsSetting (text flag) (text number) s → ((ss : List Setting) → KeepsSettings kept ss → KeepsSettings more (ss ++ s ∷ [])) → IsSplit words (map text (take (length rest - 2) (drop 2 rest))) more
   two_read words rest flag number kept more s long first second x is keeps =
       let x' = subst (λ (ws : List X). IsSplit words (map text ws) kept) (first_two rest flag number long first second) x in
       one_more_read words (map text (take (length rest - 2) (drop 2 rest))) (text flag) (text number) kept more s x' is (keeps x'.read x'.keeps)
 
   -- and are the second setting of a kind
   pub two_refused : (words : List (List ℕ)) (rest : List X) (flag number : X) (kept : Settings) (s : Setting) → 2 ≤ length rest → flag ≡ get_or rest 0 flag → number ≡ get_or rest 1 number
-      → IsSplit words (map text rest) kept → IsSetting (text flag) (text number) s → ((ss : List Setting) → Keeps kept ss → AreOnce (ss ++ s ∷ []) → ⊥) → (limits : Limits) → SaysLimits words limits → ⊥
+      → IsSplit words (map text rest) kept → IsSetting (text flag) (text number) s → ((ss : List Setting) → KeepsSettings kept ss → AreOnce (ss ++ s ∷ []) → ⊥) → (limits : Limits) → SaysLimits words limits → ⊥
   two_refused words rest flag number kept s long first second x is twice =
       let x' = subst (λ (ws : List X). IsSplit words (map text ws) kept) (first_two rest flag number long first second) x in
       second_refused words (map text (take (length rest - 2) (drop 2 rest))) (text flag) (text number) kept s x' is (twice x'.read x'.keeps)
 
   -- nothing is left to read
-  pub all_read : (words : List (List ℕ)) (rest : List X) (kept : Settings) (limits : Limits) → length rest ≡ 0 → IsSplit words (map text rest) kept → ((ss : List Setting) → Keeps kept ss → AreLimits ss limits) → SaysLimits words limits
+  pub all_read : (words : List (List ℕ)) (rest : List X) (kept : Settings) (limits : Limits) → length rest ≡ 0 → IsSplit words (map text rest) kept → ((ss : List Setting) → KeepsSettings kept ss → AreLimits ss limits) → SaysLimits words limits
   all_read words [] kept limits none x left = record {
     settings = x.read;
     are = subst (AreSettings words) (append-nil x.read) (x.joins [] tt);

@@ -69,7 +69,7 @@ abbrev pub KeepsNumber : List Setting → (ℕ → Setting) → Option ℕ → T
 KeepsNumber ss set kept = (n : ℕ) → Contains ss (set n) ↔ (kept ≡ Some n)
 
 -- the numbers of these settings are kept, each kind once
-pub record Keeps (kept : Settings) (ss : List Setting) : Type 0 where
+pub record KeepsSettings (kept : Settings) (ss : List Setting) : Type 0 where
   pub once : AreOnce ss
   pub workers : KeepsNumber ss Workers kept.workers
   pub fuel : KeepsNumber ss Fuel kept.fuel

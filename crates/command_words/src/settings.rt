@@ -1,7 +1,7 @@
 //! The settings of a run: their words, and the limits that they leave.
 ghost use Rattle.std.specs.Prelude.{◌≡◌, ℕ, ◌++◌, ◌∷◌, [], List, MatchOption, map, string_bytes};
 ghost use Rattle.command_words.specs.declared.settings.Setting.{Setting};
-ghost use Rattle.command_words.specs.Settings.{AreLimits, AreOnce, IsNumber, IsSetting, Keeps, SaysLimits};
+ghost use Rattle.command_words.specs.Settings.{AreLimits, AreOnce, IsNumber, IsSetting, KeepsSettings, SaysLimits};
 
 /// How much a run may do: the agents that may run in all its instants together, and the leaves of one instant.
 #[derive(Clone, Copy, Debug, PartialEq, Eq)]
@@ -32,7 +32,7 @@ struct Settings {
 impl Settings {
     /// These and one more, where none of its kind is set yet.
     fn with(self, setting: Setting) -> Option<Settings>
-        ensures { (ss : List Setting) → Keeps self ss → MatchOption result (AreOnce (ss ++ setting ∷ []) → ⊥) (λ more. Keeps more (ss ++ setting ∷ [])) }
+        ensures { (ss : List Setting) → KeepsSettings self ss → MatchOption result (AreOnce (ss ++ setting ∷ []) → ⊥) (λ more. KeepsSettings more (ss ++ setting ∷ [])) }
     {
         match setting {
             Setting::Workers(n) if self.workers.is_none() => Some(Settings {
@@ -53,7 +53,7 @@ impl Settings {
 
     /// The limits, with the usual number for each that is not set.
     fn limits(self) -> Limits
-        ensures { (ss : List Setting) → Keeps self ss → AreLimits ss result }
+        ensures { (ss : List Setting) → KeepsSettings self ss → AreLimits ss result }
     {
         Limits {
             fuel: self.fuel.unwrap_or(100_000_000),

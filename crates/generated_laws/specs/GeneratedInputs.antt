@@ -3,7 +3,7 @@ use Rattle.std.specs.Prelude.{◌≡◌, ℕ, List, [], ◌∷◌, ◌++◌, cod
 use Rattle.token_system.specs.Stores.{StoreMap}
 use Rattle.agent_core.specs.Programs.{CoreProgram}
 use Rattle.tdcc_base.specs.Lines.{lines_of}
-use Rattle.tdcc_base.specs.Texts.{text_of, trace_of}
+use Rattle.tdcc_base.specs.Texts.{program_text_of, trace_of}
 use Rattle.trace_text.specs.Generated.{program_text, trace_lines, trace_text}
 use Rattle.trace_text.specs.Inputs.{GivesInput}
 
@@ -13,7 +13,7 @@ input_bytes n = program_text n ++ codes "\n%%\n" ++ trace_text n
 
 -- these bytes have the text with its line feed before their mark, and behind it the lines of the trace
 pub record IsParted (n : ℕ) : Type 0 where
-  pub text : text_of (input_bytes n) ≡ program_text n ++ 10 ∷ []
+  pub text : program_text_of (input_bytes n) ≡ program_text n ++ 10 ∷ []
   pub lines : lines_of (trace_of (input_bytes n)) ≡ trace_lines n
 
 -- the line gives an input of the program

@@ -22,12 +22,12 @@ abbrev pub has : List Bool → ℕ → Bool
 has marks a = slice_index_or marks a false
 
 -- with each item, the set has those that are next to it
-abbrev pub IsClosed : List (Vec ℕ Global) → (ℕ → Bool) → Type 0
-IsClosed nexts set = (a : ℕ) → IsTrue (set a) → All (λ b. IsTrue (set b)) (list_at nexts a)
+abbrev pub IsClosedUnder : List (Vec ℕ Global) → (ℕ → Bool) → Type 0
+IsClosedUnder nexts set = (a : ℕ) → IsTrue (set a) → All (λ b. IsTrue (set b)) (list_at nexts a)
 
 -- each closed set with item a has item b
 abbrev pub LeadsTo : List (Vec ℕ Global) → ℕ → ℕ → Type 0
-LeadsTo nexts a b = (set : ℕ → Bool) → IsClosed nexts set → IsTrue (set a) → IsTrue (set b)
+LeadsTo nexts a b = (set : ℕ → Bool) → IsClosedUnder nexts set → IsTrue (set a) → IsTrue (set b)
 
 -- what each item leads to are items
 abbrev pub AreItems : List (Vec ℕ Global) → ℕ → Type 0

@@ -5,7 +5,7 @@ use Rattle.std.specs.Io.KnownBytes.{Consumes, IsAtEnd}
 use Rattle.std.proofs.lemmas.List.{append-nil, drop_at, take_at}
 use Rattle.std.proofs.lemmas.List.Elements.{All-append, All-cons, All-nil}
 use Rattle.tdcc_base.specs.Lines.{HasNoFeed, first_line, after_line, lines_of}
-use Rattle.tdcc_base.specs.Texts.{is_mark, HasNoMark, AreWholeLines, Split, behind, split_from, text_of, trace_of, ReadsText, IsTextRead}
+use Rattle.tdcc_base.specs.Texts.{is_mark, HasNoMark, AreWholeLines, Split, behind, split_from, program_text_of, trace_of, ReadsText, IsTextRead}
 use Rattle.tdcc_base.specs.Unread.{AppendsLine}
 use Rattle.tdcc_base.specs.declared.read_ahead.LineBreak.{LineBreak}
 use Rattle.tdcc_base.specs.declared.read_ahead.LineBreak.TheVariants as breaks
@@ -48,13 +48,13 @@ no_mark_last [] f m = All-nil (λ l. is_mark l ≡ false)
 no_mark_last (x ∷ line) f m = subst (All (λ l. is_mark l ≡ false)) (sym (lines_of-last x line f)) (All-cons (λ l. is_mark l ≡ false) (x ∷ line) [] m (All-nil (λ l. is_mark l ≡ false)))
 
 -- a line that is longer than a mark is in the text
-text_begins : (line rest : List ℕ) → HasNoFeed line → 3 < length line → length line ≤ length (text_of (line ++ rest))
+text_begins : (line rest : List ℕ) → HasNoFeed line → 3 < length line → length line ≤ length (program_text_of (line ++ rest))
 text_begins [] rest f long = omega arith
 text_begins (x ∷ line) rest f long =
     let first : first_line (x ∷ line ++ rest) ≡ (x ∷ line) ++ first_line rest = first_line-append (x ∷ line) rest f in
     let far : 3 < length ((x ∷ line) ++ first_line rest) = omega (arith, length-append (x ∷ line) (first_line rest)) in
     let no : is_mark (first_line (x ∷ line ++ rest)) ≡ false = rw first (long_no_mark ((x ∷ line) ++ first_line rest) far) in
-    let is : text_of (x ∷ line ++ rest) ≡ (x ∷ line) ++ text_of_line rest = ap (λ (s : Split). s.text) (split_from-line x line rest f no) in
+    let is : program_text_of (x ∷ line ++ rest) ≡ (x ∷ line) ++ text_of_line rest = ap (λ (s : Split). s.text) (split_from-line x line rest f no) in
     omega (arith, ap length is, length-append (x ∷ line) (text_of_line rest))
   where
     text_of_line : List ℕ → List ℕ
@@ -94,21 +94,21 @@ module _ (done : List ℕ) (front : IsTextFront done) where
         short = few;
       }
 
-  long_at_end : (bytes line : List ℕ) → bytes ≡ done ++ line → HasNoFeed line → is_mark line ≡ false → 65536 < length (done ++ line) → 65536 < length (text_of bytes)
+  long_at_end : (bytes line : List ℕ) → bytes ≡ done ++ line → HasNoFeed line → is_mark line ≡ false → 65536 < length (done ++ line) → 65536 < length (program_text_of bytes)
   long_at_end bytes line whole f m long =
-      let is : text_of bytes ≡ done ++ line = ap (λ (x : Split). x.text) (ap (split_from true) whole ∙ split_from-whole done line front.whole front.no_mark ∙ ap (behind done) (split_from-last line f m)) in
+      let is : program_text_of bytes ≡ done ++ line = ap (λ (x : Split). x.text) (ap (split_from true) whole ∙ split_from-whole done line front.whole front.no_mark ∙ ap (behind done) (split_from-last line f m)) in
       rw is long
 
-  long_at_feed : (bytes line rest : List ℕ) → bytes ≡ done ++ (line ++ 10 ∷ rest) → HasNoFeed line → is_mark line ≡ false → 65536 ≤ length (done ++ line) → 65536 < length (text_of bytes)
+  long_at_feed : (bytes line rest : List ℕ) → bytes ≡ done ++ (line ++ 10 ∷ rest) → HasNoFeed line → is_mark line ≡ false → 65536 ≤ length (done ++ line) → 65536 < length (program_text_of bytes)
   long_at_feed bytes line rest whole f m long =
       let no : is_mark (first_line (line ++ 10 ∷ rest)) ≡ false = subst (λ (xs : List ℕ). is_mark xs ≡ false) (sym (first_line-feed line rest f)) m in
-      let is : text_of bytes ≡ done ++ ((line ++ 10 ∷ []) ++ text_of rest) = ap (λ (x : Split). x.text) (ap (split_from true) whole ∙ split_from-whole done (line ++ 10 ∷ rest) front.whole front.no_mark ∙ ap (behind done) (split_from-feed line rest f no)) in
-      omega (arith, ap length is, length-append done ((line ++ 10 ∷ []) ++ text_of rest), length-append (line ++ 10 ∷ []) (text_of rest), length-append line (10 ∷ []), length-append done line)
+      let is : program_text_of bytes ≡ done ++ ((line ++ 10 ∷ []) ++ program_text_of rest) = ap (λ (x : Split). x.text) (ap (split_from true) whole ∙ split_from-whole done (line ++ 10 ∷ rest) front.whole front.no_mark ∙ ap (behind done) (split_from-feed line rest f no)) in
+      omega (arith, ap length is, length-append done ((line ++ 10 ∷ []) ++ program_text_of rest), length-append (line ++ 10 ∷ []) (program_text_of rest), length-append line (10 ∷ []), length-append done line)
 
-  long_at_byte : (bytes line rest : List ℕ) → bytes ≡ done ++ (line ++ rest) → HasNoFeed line → 3 < length line → 65536 < length (done ++ line) → 65536 < length (text_of bytes)
+  long_at_byte : (bytes line rest : List ℕ) → bytes ≡ done ++ (line ++ rest) → HasNoFeed line → 3 < length line → 65536 < length (done ++ line) → 65536 < length (program_text_of bytes)
   long_at_byte bytes line rest whole f far long =
-      let is : text_of bytes ≡ done ++ text_of (line ++ rest) = ap (λ (x : Split). x.text) (ap (split_from true) whole ∙ split_from-whole done (line ++ rest) front.whole front.no_mark) in
-      omega (arith, ap length is, length-append done (text_of (line ++ rest)), text_begins line rest f far, length-append done line)
+      let is : program_text_of bytes ≡ done ++ program_text_of (line ++ rest) = ap (λ (x : Split). x.text) (ap (split_from true) whole ∙ split_from-whole done (line ++ rest) front.whole front.no_mark) in
+      omega (arith, ap length is, length-append done (program_text_of (line ++ rest)), text_begins line rest f far, length-append done line)
 
 -- whether the line is a mark, as the text tells it
 pub seen_mark : (start : ℕ) (done after seen : List ℕ) (b : Bool) → b ≡ is_mark (drop start seen) → start ≡ length done → seen ≡ after → is_mark (drop (length done) after) ≡ b

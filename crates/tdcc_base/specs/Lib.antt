@@ -2,7 +2,7 @@ pub mod Causes
 pub mod Promises
 pub mod Written
 pub mod Calls
-pub mod Pieces
+pub mod Chunks
 pub mod Rooms
 pub mod Statuses
 pub mod Lines

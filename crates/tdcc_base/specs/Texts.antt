@@ -53,8 +53,8 @@ split_from start (b ∷ bytes) =
     else behind (b ∷ []) (split_from (b == 10) bytes)
 
 -- the program text of an input: the bytes before its first line that is a mark, or all bytes
-abbrev pub text_of : List ℕ → List ℕ
-text_of bytes = (split_from true bytes).text
+abbrev pub program_text_of : List ℕ → List ℕ
+program_text_of bytes = (split_from true bytes).text
 
 -- the trace of an input: the bytes after that line
 abbrev pub trace_of : List ℕ → List ℕ
@@ -67,7 +67,7 @@ end_of bytes = (split_from true bytes).end
 -- the text of the bytes was read, and the trace is left
 pub record IsTextRead (bytes : List ℕ) (new : Option (List ℕ)) (text : List ℕ) (end : TextEnd) : Type 0 where
   pub splits : Splits end bytes text (trace_of bytes)
-  pub is_text : text ≡ text_of bytes
+  pub is_text : text ≡ program_text_of bytes
   pub trace : new ≡ Some (trace_of bytes)
   pub is_end : end ≡ end_of bytes
   pub short : length text ≤ 65536
@@ -85,5 +85,5 @@ pub record IsTextSoFar (bytes : List ℕ) : Type 0 where
 abbrev pub ReadsText : Option (List ℕ) → Option (List ℕ) → List ℕ → Result TextEnd ReadStop → Type 0
 ReadsText None new text result = Unit {0}
 ReadsText (Some bytes) new text (Ok end) = IsTextRead bytes new text end
-ReadsText (Some bytes) new text (Err stops.TooLong) = (65536 < length (text_of bytes)) × ConsumesOneMore (Some bytes) new text
+ReadsText (Some bytes) new text (Err stops.TooLong) = (65536 < length (program_text_of bytes)) × ConsumesOneMore (Some bytes) new text
 ReadsText (Some bytes) new text (Err stops.Read) = Consumes (Some bytes) new text × IsTextSoFar text

@@ -7,7 +7,7 @@ use Rattle.tdcc_base.specs.declared.lines.Lines.{Lines}
 use Rattle.tdcc_base.specs.Unread.{unread, IsReady, IsOver, IsDrained, StaysEnded}
 
 -- nothing was read into the buffers yet
-pub record IsFresh (buffers : Buffers) : Type 0 where
+pub record IsUnused (buffers : Buffers) : Type 0 where
   pub unused : IsDrained buffers.ahead
   pub no_stop : buffers.stop ≡ None
   pub no_text : buffers.text.items ≡ []
@@ -17,8 +17,8 @@ abbrev pub source_of : {S : Type 0} → Lines S Buffers → S
 source_of lines = lines.source.now
 
 -- which reference the lines hold
-abbrev pub name_of : {S : Type 0} → Lines S Buffers → GName
-name_of lines = lines.source.ghost_name
+abbrev pub reference_of : {S : Type 0} → Lines S Buffers → GName
+reference_of lines = lines.source.ghost_name
 
 -- the bytes that are not yet handed out: those that were read ahead, and those that the source has left
 abbrev pub waiting : {S : Type 0} → (S → Option (List ℕ)) → Lines S Buffers → Option (List ℕ)
@@ -59,7 +59,7 @@ ReadsNoMoreAfterEnd old new = StaysEnded old.buffers.ahead new.buffers.ahead old
 -- nothing was read yet
 pub record IsFirst {S : Type 0} (left : S → Option (List ℕ)) (lines : Lines S Buffers) : Type 0 where
   pub ready : LinesReady left lines
-  pub fresh : IsFresh lines.buffers
+  pub fresh : IsUnused lines.buffers
 
 -- the lines are over this source, of which nothing was read
 pub record Opens {S : Type 0} (left : S → Option (List ℕ)) (source : S) (lines : Lines S Buffers) : Type 0 where

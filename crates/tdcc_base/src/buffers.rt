@@ -31,12 +31,12 @@ pub struct Buffers {
 
 impl Buffers {
     ghost use Rattle.tdcc_base.specs.Unread.{unread, IsReady, IsOver, IsDrained, StaysEnded};
-    ghost use Rattle.tdcc_base.specs.Waiting.{IsFresh};
+    ghost use Rattle.tdcc_base.specs.Waiting.{IsUnused};
     ghost use Rattle.tdcc_base.specs.Lines.{ReadsLine};
     ghost use Rattle.tdcc_base.specs.Texts.{ReadsText};
 
     pub(crate) fn new(alloc: Global) -> Result<Buffers, Memory>
-        ensures { IfOk result IsFresh }
+        ensures { IfOk result IsUnused }
     {
         let ahead = ReadAhead::new(alloc)?;
         let text = Vec::with_capacity(alloc, TEXT_ROOM)?;
@@ -96,7 +96,7 @@ impl Buffers {
     /// Reads the text, once and first.
     pub(crate) fn read_text<S: Source>(&mut self, source: &mut S) -> Result<TextEnd, ReadStop>
         requires ready { IsReady S.left self.old.ahead source.old }
-        requires first { IsFresh self.old }
+        requires first { IsUnused self.old }
         ensures text { ReadsText (unread S.left self.old.ahead source.old) (unread S.left self.new.ahead source.new) self.new.text.items result }
         ensures stopped { self.new.stop ≡ result_err result }
         ensures ready { IsReady S.left self.new.ahead source.new }

@@ -10,7 +10,7 @@ pub struct Calls {
 }
 
 impl Calls {
-    ghost use Rattle.tdcc_base.specs.Calls.{listed, number, IsListed, AreNew};
+    ghost use Rattle.tdcc_base.specs.Calls.{failing_calls, next_number, IsListed, AreNew};
 
     /// No call yet. Those with these numbers are to fail.
     pub(crate) fn new(fails: Vec<u64>) -> Calls
@@ -26,8 +26,8 @@ impl Calls {
     /// Numbers a call, and answers whether it is to fail.
     pub(crate) fn begin(&mut self) -> bool
         ensures fails { IsTrue result ↔ IsListed self.old }
-        ensures next { number self.new ≡ next_count (number self.old) }
-        ensures list { listed self.new ≡ listed self.old }
+        ensures next { next_number self.new ≡ next_count (next_number self.old) }
+        ensures list { failing_calls self.new ≡ failing_calls self.old }
         ensures faults { self.new.faults ≡ self.old.faults }
     {
         let call = self.next;
@@ -37,8 +37,8 @@ impl Calls {
 
     /// Counts a call that fails.
     pub(crate) fn fail(&mut self)
-        ensures next { number self.new ≡ number self.old }
-        ensures list { listed self.new ≡ listed self.old }
+        ensures next { next_number self.new ≡ next_number self.old }
+        ensures list { failing_calls self.new ≡ failing_calls self.old }
         ensures faults { self.new.faults ≡ next_count self.old.faults }
         ensures later { self.old.faults ≤ self.new.faults }
     {

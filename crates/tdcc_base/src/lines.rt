@@ -33,7 +33,7 @@ impl<'a, S, B: Drop> Drop for Lines<'a, S, B> {
 }
 
 impl<'a, S: Source> Lines<'a, S> {
-    ghost use Rattle.tdcc_base.specs.Waiting.{waiting, source_of, text_read, line_read, stop_of, name_of, Opens, IsFirst, LinesReady, AtEnd, HasNotEnded, HoldsNothingBack, ReadsNoMoreAfterEnd};
+    ghost use Rattle.tdcc_base.specs.Waiting.{waiting, source_of, text_read, line_read, stop_of, reference_of, Opens, IsFirst, LinesReady, AtEnd, HasNotEnded, HoldsNothingBack, ReadsNoMoreAfterEnd};
     ghost use Rattle.tdcc_base.specs.Lines.{ReadsLine};
     ghost use Rattle.tdcc_base.specs.Texts.{ReadsText};
 
@@ -42,7 +42,7 @@ impl<'a, S: Source> Lines<'a, S> {
     /// # Errors
     /// `Memory` where there is none for the buffers.
     pub fn new(alloc: Global, source: &'a mut S) -> Result<Lines<'a, S>, Memory>
-        ensures same_reference { IfOk result (λ lines. name_of lines ≡ source.entry.ghost_name) }
+        ensures same_reference { IfOk result (λ lines. reference_of lines ≡ source.entry.ghost_name) }
         ensures opens { IfOk result (λ lines. Opens S.left source.old lines) }
     {
         let buffers = Buffers::new(alloc)?;
@@ -56,7 +56,7 @@ impl<'a, S: Source> Lines<'a, S> {
     /// Each later call answers the same and makes no read.
     pub fn read_text(&mut self) -> Result<TextEnd, ReadStop>
         requires first { IsFirst S.left self.old }
-        ensures same_reference { name_of self.new ≡ name_of self.old }
+        ensures same_reference { reference_of self.new ≡ reference_of self.old }
         ensures text { ReadsText (waiting S.left self.old) (waiting S.left self.new) (text_read self.new) result }
         ensures short { IfOk result (λ _. length (text_read self.new) ≤ 65536) }
         ensures ready { LinesReady S.left self.new }
@@ -87,7 +87,7 @@ impl<'a, S: Source> Lines<'a, S> {
     /// Each later call answers the same and makes no read.
     pub fn read_line(&mut self) -> Result<LineEnd, ReadStop>
         requires ready { LinesReady S.left self.old }
-        ensures same_reference { name_of self.new ≡ name_of self.old }
+        ensures same_reference { reference_of self.new ≡ reference_of self.old }
         ensures line { IsNone (stop_of self.old) → ReadsLine (waiting S.left self.old) (waiting S.left self.new) (line_read self.new) result }
         ensures short { IfOk result (λ _. length (line_read self.new) ≤ 32768) }
         ensures text { text_read self.new ≡ text_read self.old }

@@ -20,12 +20,12 @@ pub struct MemSource {
 
 impl MemSource {
     ghost use Rattle.tdcc_base.specs.Calls.{AreNew};
-    ghost use Rattle.tdcc_base.specs.Pieces.{bytes_of, skip_empty, pieces_left, source_calls, AtPiece};
+    ghost use Rattle.tdcc_base.specs.Chunks.{chunk_bytes, skip_empty, pieces_left, source_calls, AtPiece};
 
     /// A source of these pieces, whose calls with the numbers in `fails` fail. Calls are numbered from 0.
     pub fn new(pieces: Vec<Vec<u8>>, fails: Vec<u64>) -> MemSource
-        ensures pieces { pieces_left result ≡ skip_empty (bytes_of pieces.items) }
-        ensures bytes { ⟦<MemSource as Source>⟧.left result ≡ Some (concat (bytes_of pieces.items)) }
+        ensures pieces { pieces_left result ≡ skip_empty (chunk_bytes pieces.items) }
+        ensures bytes { ⟦<MemSource as Source>⟧.left result ≡ Some (concat (chunk_bytes pieces.items)) }
         ensures calls { AreNew (source_calls result) fails.items }
         ensures faults { ⟦<MemSource as Source>⟧.faults result ≡ 0 }
         ensures steady { IsTrue (⟦<MemSource as Source>⟧.steady result) ↔ (fails.items ≡ []) }
@@ -56,7 +56,7 @@ impl MemSource {
 
 impl Source for MemSource {
     ghost use Rattle.tdcc_base.specs.Calls.{lists_none, IsListed, Counted};
-    ghost use Rattle.tdcc_base.specs.Pieces.{pieces_left, source_calls, GivesOf};
+    ghost use Rattle.tdcc_base.specs.Chunks.{pieces_left, source_calls, GivesOf};
 
     ghost left = { λ s. Some (concat (pieces_left s)) };
 

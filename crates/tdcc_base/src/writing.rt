@@ -2,7 +2,7 @@ ghost use Rattle.std.specs.Prelude.{OnOk, OnErr, length};
 ghost use Rattle.std.specs.Io.KnownBytes.{Appends};
 ghost use Rattle.tdcc_base.specs.Causes.{HasCause};
 ghost use Rattle.tdcc_base.specs.Promises.{TakesAllWithin};
-ghost use Rattle.tdcc_base.specs.Written.{AppendsPart};
+ghost use Rattle.tdcc_base.specs.Written.{AppendsProperPrefix};
 
 use crate::outside::{Failed, Sink};
 
@@ -12,7 +12,7 @@ use crate::outside::{Failed, Sink};
 /// `Failed` where a write failed: some of the bytes, and not all, may have been written before it.
 pub fn write_all<K: Sink>(sink: &mut K, bytes: &[u8]) -> Result<(), Failed>
     ensures ok { OnOk result (Appends (K.written sink.old) (K.written sink.new) bytes.now) }
-    ensures part { OnErr result (AppendsPart (K.written sink.old) (K.written sink.new) bytes.now) }
+    ensures part { OnErr result (AppendsProperPrefix (K.written sink.old) (K.written sink.new) bytes.now) }
     ensures cause { HasCause (K.faults sink.old) (K.faults sink.new) result }
     ensures roomy { TakesAllWithin (K.room sink.old) (K.room sink.new) (length bytes.now) result }
 {

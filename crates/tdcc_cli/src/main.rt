@@ -6,7 +6,7 @@ ghost use Rattle.std.specs.Prelude.{◌≡◌, ℕ, List, IfSome};
 ghost use Rattle.std.specs.Io.KnownBytes.{Appends};
 ghost use Rattle.std.specs.Process.{exit_status};
 ghost use Rattle.tdcc_base.specs.Statuses.{status_number};
-ghost use Rattle.tdcc_base.specs.Written.{Tells};
+ghost use Rattle.tdcc_base.specs.Written.{WritesUntilFault};
 ghost use Rattle.tdcc_base.specs.declared.status.Status.{Status as StatusValue};
 ghost use Rattle.tdcc_base.specs.declared.status.Status.TheVariants as statuses;
 ghost use Rattle.tdcc_tool.specs.Answers.{Answers};
@@ -45,7 +45,7 @@ fn answered<R: Threads + Sync, S: Source, K: Sink, E: Sink>(
     ensures { (s : StatusValue) × (exit_status result ≡ status_number s) × (IsSettled s → IfSome (S.left source.old) (λ bytes. (o e : List ℕ) ×
         Answers words.now bytes s o e
         × Appends (K.written out.old) (K.written out.new) o
-        × Tells (E.written err.old) (E.written err.new) (E.faults err.old) (E.faults err.new) e)) }
+        × WritesUntilFault (E.written err.old) (E.written err.new) (E.faults err.old) (E.faults err.new) e)) }
 {
     let status = tdcc(rt, alloc, words, source, out, err, &OpenGate);
     ExitCode::from(status.number())
@@ -54,7 +54,7 @@ fn answered<R: Threads + Sync, S: Source, K: Sink, E: Sink>(
 /// Tells that there is no memory for the words, and gives the exit code of that.
 fn without_words<E: Sink>(err: &mut E) -> ExitCode
     ensures code { exit_status result ≡ status_number statuses.Memory }
-    ensures told { Tells (E.written err.old) (E.written err.new) (E.faults err.old) (E.faults err.new) memory_line }
+    ensures told { WritesUntilFault (E.written err.old) (E.written err.new) (E.faults err.old) (E.faults err.new) memory_line }
 {
     let _ = write_all(err, b"tdcc: out of memory\n");
     ExitCode::from(Status::Memory.number())

@@ -7,7 +7,7 @@ use Rattle.std.proofs.lemmas.List.Elements.{All-nil, All-cons, All-head, All-tai
 use Rattle.std.proofs.lemmas.List.Sums.{sum_by-cons}
 use Rattle.tdcc_base.specs.declared.status.Status.{Status}
 use Rattle.tdcc_base.specs.declared.status.Status.TheVariants as statuses
-use Rattle.tdcc_base.specs.Texts.{text_of}
+use Rattle.tdcc_base.specs.Texts.{program_text_of}
 use Rattle.token_system.specs.Stores.{StoreMap}
 use Rattle.agent_core.specs.Programs.{CoreProgram}
 use Rattle.agent_core.specs.Stores.{IsStore}
@@ -60,11 +60,11 @@ module _ (p : CoreProgram) where
 -- THE RUN
 
 module _ (n : ℕ) where
-  text_reads : ReadsAs Program (text_of (input_bytes n)) (surface n)
+  text_reads : ReadsAs Program (program_text_of (input_bytes n)) (surface n)
   text_reads = let is = parted n in subst (λ (text : List ℕ). ReadsAs Program text (surface n)) (sym is.text) (line_read n)
 
   module _ (p : CoreProgram) (is : IsExpansion (surface n) p) where
-    accepted : Accepts (text_of (input_bytes n)) p
+    accepted : Accepts (program_text_of (input_bytes n)) p
     accepted =
         let low = small n p is in
         let nodes = low.few_nodes in
@@ -96,7 +96,7 @@ module _ (n : ℕ) where
   -- What is generated goes through within the usual limits.
   pub generated_through : n ≤ 65536 → RunsThrough usual_limits (input_bytes n)
   generated_through most =
-      let (p, is) = some_expansion (surface n) (surface_formed (surface n) (text_of (input_bytes n), text_reads)) in
+      let (p, is) = some_expansion (surface n) (surface_formed (surface n) (program_text_of (input_bytes n), text_reads)) in
       let low = small n p is in
       let (ins, given) = given_inputs p (trace_lines n) (trace_given n p is) in
       let (outs, run) = has_run p (table n) low.is low.stratified ins (given_stores p (trace_lines n) ins given) in

@@ -3,7 +3,7 @@ use Rattle.std.proofs.Common.{◌≡◌, ℕ, suc, ◌<◌, ◌≤◌, List, [],
 use Rattle.std.specs.Prelude.{String, string_bytes, slice_index}
 use Rattle.std.specs.declared.alloc.Global.{Global}
 use Rattle.tdcc_base.specs.declared.status.Status.{Status}
-use Rattle.tdcc_base.specs.Texts.{text_of, trace_of}
+use Rattle.tdcc_base.specs.Texts.{program_text_of, trace_of}
 use Rattle.tdcc_base.specs.Lines.{lines_of}
 use Rattle.agent_core.specs.Programs.{CoreProgram}
 use Rattle.agent_core.specs.WellFormed.{IsWellFormed}
@@ -93,12 +93,12 @@ one_answer_of tasks.Core p bytes s s' o o' e e' is x y = one_core_answer p s s' 
 -- the answer of a task is one
 one_answer_to : (task : Task) (bytes : List ℕ) (s s' : Status) (o o' e e' : List ℕ) → AnswersTo task bytes s o e → AnswersTo task bytes s' o' e' → AreSame s s' o o' e e'
 one_answer_to task bytes s s' o o' e e' (inl x) (inl y) =
-    (x.is ∙ sym y.is, x.nothing ∙ sym y.nothing, x.told ∙ ap program_line (one_text_fault (text_of bytes) x.fault y.fault x.has y.has) ∙ sym y.told)
-one_answer_to task bytes s s' o o' e e' (inl x) (inr (p, built, y)) = absurd (built_no_fault (text_of bytes) p x.fault built x.has)
-one_answer_to task bytes s s' o o' e e' (inr (p, built, x)) (inl y) = absurd (built_no_fault (text_of bytes) p y.fault built y.has)
+    (x.is ∙ sym y.is, x.nothing ∙ sym y.nothing, x.told ∙ ap program_line (one_text_fault (program_text_of bytes) x.fault y.fault x.has y.has) ∙ sym y.told)
+one_answer_to task bytes s s' o o' e e' (inl x) (inr (p, built, y)) = absurd (built_no_fault (program_text_of bytes) p x.fault built x.has)
+one_answer_to task bytes s s' o o' e e' (inr (p, built, x)) (inl y) = absurd (built_no_fault (program_text_of bytes) p y.fault built y.has)
 one_answer_to task bytes s s' o o' e e' (inr (p, built, x)) (inr (q, built', y)) =
-    let same : q ≡ p = one_built (text_of bytes) q p built' built in
-    one_answer_of task p bytes s s' o o' e e' (built_program (text_of bytes) p built) x (subst (λ (r : CoreProgram). AnswersOf task r bytes s' o' e') same y)
+    let same : q ≡ p = one_built (program_text_of bytes) q p built' built in
+    one_answer_of task p bytes s s' o o' e e' (built_program (program_text_of bytes) p built) x (subst (λ (r : CoreProgram). AnswersOf task r bytes s' o' e') same y)
 
 -- words are those of one command
 pub one_command : (words : List (String Global)) (a b : Command) → IsCommand a words → IsCommand b words → a ≡ b

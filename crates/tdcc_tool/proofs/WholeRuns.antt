@@ -6,7 +6,7 @@ use Rattle.std.proofs.lemmas.List.{length-take-le, take_all}
 use Rattle.tdcc_base.specs.declared.status.Status.{Status}
 use Rattle.tdcc_base.specs.declared.status.Status.TheVariants as statuses
 use Rattle.tdcc_base.specs.Promises.{TakesAllWithin}
-use Rattle.tdcc_base.specs.Texts.{text_of, trace_of}
+use Rattle.tdcc_base.specs.Texts.{program_text_of, trace_of}
 use Rattle.tdcc_base.specs.Lines.{lines_of}
 use Rattle.token_system.specs.Stores.{StoreMap}
 use Rattle.agent_core.specs.Programs.{CoreProgram}
@@ -60,13 +60,13 @@ module _ (bytes : List ℕ) where
   lines = lines_of (trace_of bytes)
 
   -- a run that may go to its end ends with the status of one that did
-  whole_run : (writing : Writing) (p : CoreProgram) (s : Status) (o e : List ℕ) (table : List ℕ) → IsBuilt (text_of bytes) p → Stratifies p table → (limits : Limits) (r : RunsThrough limits bytes) → RunAnswer p writing limits lines s o e → s ≡ statuses.Ok
+  whole_run : (writing : Writing) (p : CoreProgram) (s : Status) (o e : List ℕ) (table : List ℕ) → IsBuilt (program_text_of bytes) p → Stratifies p table → (limits : Limits) (r : RunsThrough limits bytes) → RunAnswer p writing limits lines s o e → s ≡ statuses.Ok
   whole_run writing p s o e table built fits limits r answer =
-      answer.status_is ∙ ap status_of (go r.program r.outputs (one_built (text_of bytes) r.program p r.accepted.built built) r.given r.run r.within)
+      answer.status_is ∙ ap status_of (go r.program r.outputs (one_built (program_text_of bytes) r.program p r.accepted.built built) r.given r.run r.within)
     where
       go : (q : CoreProgram) (outputs : List StoreMap) → q ≡ p → GiveInputs q lines r.inputs → IsRun q r.inputs outputs → KeepsLimits q limits outputs → answer.end ≡ ends.Whole
       go q outputs same given run within =
-          let is = built_program (text_of bytes) p built in
+          let is = built_program (program_text_of bytes) p built in
           let given' = subst (λ (x : CoreProgram). GiveInputs x lines r.inputs) same given in
           let run' = subst (λ (x : CoreProgram). IsRun x r.inputs outputs) same run in
           let within' = subst (λ (x : CoreProgram). KeepsLimits x limits outputs) same within in
@@ -78,9 +78,9 @@ module _ (bytes : List ℕ) where
           ends_whole p table is fits limits lines r.inputs outputs (length answer.ins) answer.end given' run' r.few within' le (subst (λ (z : List StoreMap). EndsBy p limits lines z answer.end) outs answer.ends)
 
   pub whole_status : (writing : Writing) (limits : Limits) → RunsThrough limits bytes → (s : Status) (o e : List ℕ) → AnswersTo (tasks.Run writing limits) bytes s o e → s ≡ statuses.Ok
-  whole_status writing limits r s o e (inl x) = absurd (built_no_fault (text_of bytes) r.program x.fault r.accepted.built x.has)
+  whole_status writing limits r s o e (inl x) = absurd (built_no_fault (program_text_of bytes) r.program x.fault r.accepted.built x.has)
   whole_status writing limits r s o e (inr (p, built, inl x)) =
-      absurd (x.case.none r.accepted.table (subst (λ (q : CoreProgram). Stratifies q r.accepted.table) (one_built (text_of bytes) r.program p r.accepted.built built) r.accepted.stratified))
+      absurd (x.case.none r.accepted.table (subst (λ (q : CoreProgram). Stratifies q r.accepted.table) (one_built (program_text_of bytes) r.program p r.accepted.built built) r.accepted.stratified))
   whole_status writing limits r s o e (inr (p, built, inr (table, fits, answer))) = whole_run writing p s o e table built fits limits r answer
 
   called_whole : (words : List (String Global)) (command : Command) (s : Status) (o e : List ℕ) → IsCommand command words → AnswersBy command bytes s o e → IsRunnable words bytes → s ≡ statuses.Ok

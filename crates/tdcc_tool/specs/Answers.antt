@@ -7,7 +7,7 @@ use Rattle.command_words.specs.Words as words_of
 use Rattle.tdcc_base.specs.declared.status.Status.{Status}
 use Rattle.tdcc_base.specs.declared.status.Status.TheVariants as statuses
 use Rattle.tdcc_base.specs.Lines.{lines_of}
-use Rattle.tdcc_base.specs.Texts.{text_of, trace_of}
+use Rattle.tdcc_base.specs.Texts.{program_text_of, trace_of}
 use Rattle.token_system.specs.Stores.{StoreMap}
 use Rattle.agent_core.specs.Programs.{CoreProgram}
 use Rattle.agent_core.specs.Outputs.{IsRun}
@@ -92,8 +92,8 @@ AnswersOf tasks.Core p bytes status out err = CoreAnswer p status out err
 -- what a task answers to the bytes: a program text, and then the trace
 abbrev pub AnswersTo : Task → List ℕ → Status → List ℕ → List ℕ → Type 0
 AnswersTo task bytes status out err =
-    FaultAnswer (text_of bytes) status out err
-    ⊎ ((p : CoreProgram) × IsBuilt (text_of bytes) p × AnswersOf task p bytes status out err)
+    FaultAnswer (program_text_of bytes) status out err
+    ⊎ ((p : CoreProgram) × IsBuilt (program_text_of bytes) p × AnswersOf task p bytes status out err)
 
 -- what a command answers, where these are the bytes of the source
 abbrev pub AnswersBy : Command → List ℕ → Status → List ℕ → List ℕ → Type 0

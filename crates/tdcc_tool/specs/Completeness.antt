@@ -2,7 +2,7 @@
 use Rattle.std.specs.Prelude.{◌⊎◌, ℕ, ◌≤◌, List, length, String, Option, Some, None}
 use Rattle.std.specs.declared.alloc.Global.{Global}
 use Rattle.tdcc_base.specs.Lines.{lines_of}
-use Rattle.tdcc_base.specs.Texts.{text_of, trace_of}
+use Rattle.tdcc_base.specs.Texts.{program_text_of, trace_of}
 use Rattle.tdcc_base.specs.declared.status.Status.{Status}
 use Rattle.tdcc_base.specs.declared.status.Status.TheVariants as statuses
 use Rattle.token_system.specs.Stores.{StoreMap}
@@ -20,7 +20,7 @@ CallsRun limits words = IsCommand (Run limits) words ⊎ IsCommand (Report limit
 -- the text is a program that runs, each line of the trace, of which there are not too many, gives an input, and the run on these keeps the limits
 pub record RunsThrough (limits : Limits) (bytes : List ℕ) : Type 0 where
   pub program : CoreProgram
-  pub accepted : Accepts (text_of bytes) program
+  pub accepted : Accepts (program_text_of bytes) program
   pub inputs : List StoreMap
   pub few : length inputs ≤ 65536
   pub given : GiveInputs program (lines_of (trace_of bytes)) inputs

@@ -1,7 +1,7 @@
 -- What out holds of the answer where a fault or want of memory cut the call short. This project's own.
 use Rattle.std.specs.Prelude.{◌≡◌, ◌≢◌, ◌⊎◌, ℕ, List, [], ◌∷◌, ◌++◌, Option, Some, None, All, String}
 use Rattle.std.specs.declared.alloc.Global.{Global}
-use Rattle.tdcc_base.specs.Written.{AppendsPart, AppendsFront}
+use Rattle.tdcc_base.specs.Written.{AppendsProperPrefix, AppendsPrefix}
 use Rattle.tdcc_base.specs.declared.status.Status.{Status}
 use Rattle.tdcc_base.specs.declared.status.Status.TheVariants as statuses
 use Rattle.tdcc_tool.specs.Answers.{Answers}
@@ -21,13 +21,13 @@ pub record WholeLines (given lines : List ℕ) : Type 0 where
 -- After a read fault out holds a front of the answer to the whole lines that the source gave.
 abbrev pub HoldsTaken : List (String Global) → List ℕ → Option (List ℕ) → Option (List ℕ) → Type 0
 HoldsTaken words given before now =
-    (lines : List ℕ) (s : Status) (o e : List ℕ) → WholeLines given lines → Answers words lines s o e → AppendsFront before now o
+    (lines : List ℕ) (s : Status) (o e : List ℕ) → WholeLines given lines → Answers words lines s o e → AppendsPrefix before now o
 
 -- What out holds of the answer to all bytes, of which the source gave these: after a write fault a front that is not the whole, after want of memory a front.
 abbrev pub CutsOut : Status → List (String Global) → List ℕ → List ℕ → Option (List ℕ) → Option (List ℕ) → Type 0
 CutsOut statuses.Read words bytes given before now = HoldsTaken words given before now
-CutsOut statuses.Write words bytes given before now = (s : Status) (o e : List ℕ) → Answers words bytes s o e → AppendsPart before now o
-CutsOut statuses.Memory words bytes given before now = (s : Status) (o e : List ℕ) → Answers words bytes s o e → AppendsFront before now o
+CutsOut statuses.Write words bytes given before now = (s : Status) (o e : List ℕ) → Answers words bytes s o e → AppendsProperPrefix before now o
+CutsOut statuses.Memory words bytes given before now = (s : Status) (o e : List ℕ) → Answers words bytes s o e → AppendsPrefix before now o
 CutsOut _ words bytes given before now = Unit {0}
 
 -- the line that a status has by itself, whatever the bytes

@@ -3,7 +3,7 @@ ghost use Rattle.std.specs.Prelude.{◌≡◌, ◌≤◌, [], IfOk, IfSome, Matc
 ghost use Rattle.tdcc_base.specs.Causes.{Rose};
 ghost use Rattle.tdcc_base.specs.Promises.{StaysSteady};
 ghost use Rattle.tdcc_base.specs.Lines.{lines_of};
-ghost use Rattle.tdcc_base.specs.Waiting.{waiting, source_of, stop_of, LinesReady, name_of};
+ghost use Rattle.tdcc_base.specs.Waiting.{waiting, source_of, stop_of, LinesReady, reference_of};
 ghost use Rattle.agent_core.specs.Strata.{Stratifies};
 ghost use Rattle.tdcc_tool.specs.Answers.{ProgramAnswer, RunAnswer};
 ghost use Rattle.tdcc_tool.specs.Ends.{IsCommandEnd};
@@ -48,7 +48,7 @@ fn run_trace<S: Source>(
     requires ins { start.book.ins ≡ [] }
     requires ready { LinesReady S.left lines.old }
     requires going_on { IsNone (stop_of lines.old) }
-    ensures same_reference { name_of lines.new ≡ name_of lines.old }
+    ensures same_reference { reference_of lines.new ≡ reference_of lines.old }
     ensures answer { IfOk result (λ a. IfSome (waiting S.left lines.old) (λ trace.
         RunAnswer start.book.program start.writing start.limits (lines_of trace) a.status a.out.items a.err.items)) }
     ensures ended { IfOk result (λ a. a.status ≡ Status.Ok → OnSome (waiting S.left lines.old) (S.left (source_of lines.new) ≡ Some [])) }
@@ -88,7 +88,7 @@ pub fn run_program<S: Source>(
     requires net { limits.net ≤ 65536 }
     requires ready { LinesReady S.left lines.old }
     requires going_on { IsNone (stop_of lines.old) }
-    ensures same_reference { name_of lines.new ≡ name_of lines.old }
+    ensures same_reference { reference_of lines.new ≡ reference_of lines.old }
     ensures answer { IfOk result (λ a. IfSome (waiting S.left lines.old) (λ trace.
         ProgramAnswer program writing limits (lines_of trace) a.status a.out.items a.err.items)) }
     ensures ended { IfOk result (λ a. a.status ≡ Status.Ok → OnSome (waiting S.left lines.old) (S.left (source_of lines.new) ≡ Some [])) }

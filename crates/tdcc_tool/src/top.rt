@@ -1,7 +1,7 @@
 ghost use Rattle.std.specs.Prelude.{◌≡◌, ◌↔◌, ℕ, List, [], IfSome, OnSome, IsTrue, Some};
 ghost use Rattle.std.specs.Io.KnownBytes.{Appends, Consumes};
 ghost use Rattle.tdcc_base.specs.Causes.{Rose};
-ghost use Rattle.tdcc_base.specs.Written.{Tells};
+ghost use Rattle.tdcc_base.specs.Written.{WritesUntilFault};
 ghost use Rattle.command_words.specs.declared.command.Command.{Command};
 ghost use Rattle.tdcc_tool.specs.Answers.{Answers, IsCommand, IsNoCommand};
 ghost use Rattle.tdcc_tool.specs.Completeness.{IsRunnable, EndsWhole, IsRoomFor};
@@ -18,7 +18,7 @@ use tdcc_base::{Failed, Gate, Sink, Source, Status, write_all};
 
 /// Writes a line to err, as far as err takes it.
 fn tell<E: Sink>(err: &mut E, line: &[u8])
-    ensures { Tells (E.written err.old) (E.written err.new) (E.faults err.old) (E.faults err.new) line.now }
+    ensures { WritesUntilFault (E.written err.old) (E.written err.new) (E.faults err.old) (E.faults err.new) line.now }
 {
     let _ = write_all(err, line);
 }
@@ -42,12 +42,12 @@ pub fn tdcc<R: Threads + Sync, S: Source, K: Sink, E: Sink, G: Gate>(
     ensures answer { IsSettled result → IfSome (S.left source.old) (λ bytes. (o e : List ℕ) ×
         Answers words.now bytes result o e
         × Appends (K.written out.old) (K.written out.new) o
-        × Tells (E.written err.old) (E.written err.new) (E.faults err.old) (E.faults err.new) e) }
+        × WritesUntilFault (E.written err.old) (E.written err.new) (E.faults err.old) (E.faults err.new) e) }
 
     // What a fault or want of memory leaves.
     ensures cut_out { (bytes given : List ℕ) → S.left source.old ≡ Some bytes → Consumes (S.left source.old) (S.left source.new) given →
         CutsOut result words.now bytes given (K.written out.old) (K.written out.new) }
-    ensures own_line { IfSome (own_line result) (λ line. Tells (E.written err.old) (E.written err.new) (E.faults err.old) (E.faults err.new) line) }
+    ensures own_line { IfSome (own_line result) (λ line. WritesUntilFault (E.written err.old) (E.written err.new) (E.faults err.old) (E.faults err.new) line) }
     ensures read { result ≡ Status.Read → Rose (S.faults source.old) (S.faults source.new) }
     ensures write { result ≡ Status.Write → Rose (K.faults out.old) (K.faults out.new) }
 

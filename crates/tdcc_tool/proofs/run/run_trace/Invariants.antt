@@ -1,6 +1,6 @@
 use Rattle.std.proofs.Common.{◌≡◌, ◌≤◌, ◌-◌, length}
 use Rattle.std.specs.Prelude.{IsNone, IsTrue}
-use Rattle.tdcc_base.specs.Waiting.{waiting, source_of, stop_of, LinesReady, name_of}
+use Rattle.tdcc_base.specs.Waiting.{waiting, source_of, stop_of, LinesReady, reference_of}
 use Rattle.tdcc_tool.specs.declared.course.Course.{Course}
 use Rattle.tdcc_tool.proofs.RunSteps.{Settings, IsOnWay}
 use Rattle.tdcc_tool.proofs.run.run_trace.Given as goal
@@ -10,7 +10,7 @@ settings_of c = record { program = c.book.program; writing = c.writing; limits =
 
 abbrev pub invariant-lines : goal.invariant-lines
 invariant-lines g l = record {
-  same : name_of l.lines ≡ name_of l.fn.lines;
+  same : reference_of l.lines ≡ reference_of l.fn.lines;
   ready : LinesReady g.S.Source.left l.lines;
   going_on : IsNone (stop_of l.lines);
   later : g.S.Source.faults (source_of l.fn.lines) ≤ g.S.Source.faults (source_of l.lines);

@@ -1,6 +1,6 @@
 use Rattle.std.proofs.Common.{[], Err, false, refl, ◌∙◌, inl, inr, subst}
 use Rattle.std.specs.Io.KnownBytes.{Appends}
-use Rattle.tdcc_base.specs.Written.{AppendsPart, Tells}
+use Rattle.tdcc_base.specs.Written.{AppendsProperPrefix, WritesUntilFault}
 use Rattle.tdcc_base.proofs.Known.{Appends-nothing}
 use Rattle.tdcc_tool.specs.Messages.{usage_line}
 use Rattle.command_words.specs.declared.command.Command.TheVariants.{Run, Report}
@@ -24,7 +24,7 @@ returns-in-Ok-clause-cut_out g c bytes given known taken s o e answer =
     let called : IsCommand c.in-Some.command c.args.words.now = c.in-Some.ensures in
     let ours = IfSome-at (g.S.Source.left c.args.source.now) bytes _ known c.in-Ok.ensures.answer in
     let same = one_answer c.args.words.now bytes c.in-Ok.answer.status s c.in-Ok.answer.out.items o _ e (inl (c.in-Some.command, called, ours)) answer in
-    subst (AppendsPart (g.K.Sink.written c.args.out.now) (g.K.Sink.written c.write_all.new.sink)) (c.as_slice.ensures.value ∙ same.1) c.in-Err.ensures.part
+    subst (AppendsProperPrefix (g.K.Sink.written c.args.out.now) (g.K.Sink.written c.write_all.new.sink)) (c.as_slice.ensures.value ∙ same.1) c.in-Err.ensures.part
 
 pub returns-in-Ok-write_all-clause-whole : goal.returns-in-Ok-write_all-clause-whole
 returns-in-Ok-write_all-clause-whole g c =
@@ -50,7 +50,7 @@ returns-in-Ok-write_all-clause-answer g c _ =
       c.in-Ok.answer.err.items,
       inl (c.in-Some.command, called, answer),
       subst (Appends (g.K.Sink.written c.args.out.now) (g.K.Sink.written c.write_all.new.sink)) c.as_slice.ensures.value c.in-Ok-write_all.ensures.ok,
-      subst (Tells (g.E.Sink.written c.args.err.now) (g.E.Sink.written c.tell-in-Ok-write_all.new.err) (g.E.Sink.faults c.args.err.now) (g.E.Sink.faults c.tell-in-Ok-write_all.new.err)) c.as_slice-in-Ok-write_all.ensures.value c.tell-in-Ok-write_all.ensures,
+      subst (WritesUntilFault (g.E.Sink.written c.args.err.now) (g.E.Sink.written c.tell-in-Ok-write_all.new.err) (g.E.Sink.faults c.args.err.now) (g.E.Sink.faults c.tell-in-Ok-write_all.new.err)) c.as_slice-in-Ok-write_all.ensures.value c.tell-in-Ok-write_all.ensures,
     ))
 
 pub answer_command-requires : goal.answer_command-requires

@@ -1,6 +1,6 @@
 use Rattle.std.proofs.Common.{Some, ap, ◌∙◌}
 use Rattle.std.specs.List.{concat}
-use Rattle.tdcc_base.specs.Pieces.{pieces_from}
+use Rattle.tdcc_base.specs.Chunks.{pieces_from}
 use Rattle.tdcc_base.proofs.PieceSteps.{concat-skip_empty, pieces_from-zero}
 use Rattle.tdcc_base.proofs.memory_source.MemSource.new.Goals as goal
 

@@ -1,5 +1,5 @@
 use Rattle.std.proofs.Common.{◌≡◌, ◌-◌, vec_len}
-use Rattle.tdcc_base.specs.Pieces.{pieces_left, source_calls}
+use Rattle.tdcc_base.specs.Chunks.{pieces_left, source_calls}
 use Rattle.tdcc_base.proofs.memory_source.MemSource.skip.Given as goal
 
 abbrev pub invariant-loop-self : goal.invariant-loop-self

@@ -1,7 +1,7 @@
 use Rattle.std.proofs.Common.{◌≡◌, ◌<◌, ◌≤◌, ◌+◌, ◌-◌, ℕ, List, length, take, drop, ◌++◌, arith, length-drop, sym, ap, ◌∙◌}
 use Rattle.std.specs.List.{concat}
 use Rattle.std.proofs.lemmas.List.{take_at, length-take-le}
-use Rattle.tdcc_base.specs.Pieces.{pieces_from, skip_empty}
+use Rattle.tdcc_base.specs.Chunks.{pieces_from, skip_empty}
 use Rattle.tdcc_base.proofs.Known.{take-tail}
 use Rattle.tdcc_base.proofs.PieceSteps.{bytes_given, some_left}
 use Rattle.tdcc_base.proofs.memory_source.MemSourceSource.read.Goals as goal

@@ -5,13 +5,13 @@ use Rattle.tdcc_base.specs.declared.memory_source.MemSource.{MemSource}
 use Rattle.tdcc_base.specs.declared.calls.Calls.{Calls}
 
 -- the bytes of each piece
-abbrev pub bytes_of : List (Vec ℕ Global) → List (List ℕ)
-bytes_of pieces = map (λ piece. piece.items) pieces
+abbrev pub chunk_bytes : List (Vec ℕ Global) → List (List ℕ)
+chunk_bytes pieces = map (λ piece. piece.items) pieces
 
 -- the pieces, less the first bytes of the first one
 abbrev pub pieces_from : ℕ → List (Vec ℕ Global) → List (List ℕ)
 pieces_from given [] = []
-pieces_from given (piece ∷ pieces) = drop given piece.items ∷ bytes_of pieces
+pieces_from given (piece ∷ pieces) = drop given piece.items ∷ chunk_bytes pieces
 
 -- the pieces from the first that has some bytes
 abbrev pub skip_empty : List (List ℕ) → List (List ℕ)
