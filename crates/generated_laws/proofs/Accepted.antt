@@ -8,7 +8,7 @@ use Rattle.tdcc_reader.specs.declared.dialect.Dialect.TheVariants.{Program}
 use Rattle.tdcc_reader.specs.LexemeTerms.{terms_of}
 use Rattle.tdcc_reader.specs.Refusals.{Accepts}
 use Rattle.tdcc_reader.specs.Texts.{ReadsAs}
-use Rattle.trace_text.specs.Generated.{joined, signals_text, numbers_text, units, program_text}
+use Rattle.trace_text.specs.Generated.{joined_by, signals_text, numbers_text, units, program_text}
 use Rattle.trace_text.specs.Writing.{separated}
 use Rattle.trace_text.proofs.GeneratedLines.{program_line}
 use Rattle.core_text_laws.proofs.Written.{same_written, written_lexed}
@@ -22,7 +22,7 @@ use Rattle.generated_laws.proofs.PartNames.{program_clean}
 use Rattle.generated_laws.proofs.PartTrees.{surface_seen}
 
 -- no program is without parts
-some_say : (us : List Part) (space : List ℕ) → 0 < length us → Each IsPart us → IsEnd space [] → Says (joined (codes " || ") (map part_text us) ++ space) (agent (agent_phrase us) [])
+some_say : (us : List Part) (space : List ℕ) → 0 < length us → Each IsPart us → IsEnd space [] → Says (joined_by (codes " || ") (map part_text us) ++ space) (agent (agent_phrase us) [])
 some_say [] space some all end = absurd (omega arith)
 some_say (u ∷ us) space some all end = same_written (append_assoc (part_text u) (separated (codes " || ") (map part_text us)) space) (parts_say u us space all.0 all.1 end)
 
@@ -34,9 +34,9 @@ text_says : (n : ℕ) (space : List ℕ) → IsEnd space [] → Says (program_te
 unfolding program_text
 text_says n space end =
     let many = parts_many n in
-    let body : Says (joined (codes " || ") (units n) ++ space) (agent (agent_phrase (parts n)) []) =
-    subst (λ (texts : List (List ℕ)). Says (joined (codes " || ") texts ++ space) (agent (agent_phrase (parts n)) [])) (sym (parts_text n)) (some_say (parts n) space (omega arith) (parts_are n) end) in
-    same_written (append_assoc (signals_text 32 ++ numbers_text 8) (joined (codes " || ") (units n)) space) (program_says (parts n) (joined (codes " || ") (units n) ++ space) body)
+    let body : Says (joined_by (codes " || ") (units n) ++ space) (agent (agent_phrase (parts n)) []) =
+    subst (λ (texts : List (List ℕ)). Says (joined_by (codes " || ") texts ++ space) (agent (agent_phrase (parts n)) [])) (sym (parts_text n)) (some_say (parts n) space (omega arith) (parts_are n) end) in
+    same_written (append_assoc (signals_text 32 ++ numbers_text 8) (joined_by (codes " || ") (units n)) space) (program_says (parts n) (joined_by (codes " || ") (units n) ++ space) body)
 
 accepted : (n : ℕ) (space : List ℕ) → IsEnd space [] → length space ≤ 1 → Accepts Program (program_text n ++ space) (program_phrase (parts n))
 accepted n space end few =

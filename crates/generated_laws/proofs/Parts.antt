@@ -5,8 +5,8 @@ use Rattle.std.specs.List.{range_with_len}
 use Rattle.std.proofs.Math.Nat.{mod-lt}
 use Rattle.std.proofs.lemmas.List.{map-append}
 use Rattle.agent_core.specs.Strata.{Each}
-use Rattle.trace_text.specs.Draws.{after, drawn}
-use Rattle.trace_text.specs.Generated.{signal_name, number_name, form_of, form_text, rule_text, bound_text, rules, bounds, units}
+use Rattle.trace_text.specs.Draws.{draw_after, drawn}
+use Rattle.trace_text.specs.Generated.{signal_name, number_name, drawn_form, form_text, rule_text, bound_text, rules, bounds, units}
 use Rattle.generated_laws.specs.GeneratedParts.{Part, Follows, Defaults, Delays, Starts, Ends, Bounds, rule_of, rule_part, bound_part, parts}
 use Rattle.generated_laws.proofs.Rows.{each_row, each_append}
 
@@ -22,7 +22,7 @@ IsPart (Ends i j h) = (j < 32) × (i < j) × (h < j)
 IsPart (Bounds i n k) = (i < 32) × (n < 8) × (k < 100)
 
 pub drawn-lt : (x k m : ℕ) → 0 < m → drawn x k m < m
-drawn-lt x k m h = mod-lt (after x (k + 1) / 65536) h
+drawn-lt x k m h = mod-lt (draw_after x (k + 1) / 65536) h
 
 rule_is : (form i j h : ℕ) → j < 32 → i < j → h < j → IsPart (rule_of form i j h)
 rule_is zero i j h few less stop = (few, less)
@@ -41,11 +41,11 @@ drawn_bound x i few = (drawn-lt x 0 32 (omega arith), few, drawn-lt x 1 100 (ome
 pub parts_are : (n : ℕ) → Each IsPart (parts n)
 unfolding parts
 parts_are n =
-    let rule : ℕ → Part = λ j. rule_part (after n (3 * (j - 1))) j in
-    let bound : ℕ → Part = λ i. bound_part (after (after n 93) (2 * i)) i in
+    let rule : ℕ → Part = λ j. rule_part (draw_after n (3 * (j - 1))) j in
+    let bound : ℕ → Part = λ i. bound_part (draw_after (draw_after n 93) (2 * i)) i in
     each_append IsPart (map rule (range_with_len 1 31)) (map bound (range_with_len 0 8))
-    (each_row IsPart rule 1 31 (λ j low high. drawn_rule (after n (3 * (j - 1))) j (omega arith) (omega arith)))
-    (each_row IsPart bound 0 8 (λ i low high. drawn_bound (after (after n 93) (2 * i)) i (omega arith)))
+    (each_row IsPart rule 1 31 (λ j low high. drawn_rule (draw_after n (3 * (j - 1))) j (omega arith) (omega arith)))
+    (each_row IsPart bound 0 8 (λ i low high. drawn_bound (draw_after (draw_after n 93) (2 * i)) i (omega arith)))
 
 -- TEXTS
 
@@ -62,7 +62,7 @@ same_row f g h e a zero = refl
 same_row {X} {Y} f g h e a (suc n) =
     ap (λ (y : Y). y ∷ map h (range_with_len (a + 1) n)) (e a) ∙ ap (λ (ys : List Y). f (g a) ∷ ys) (same_row f g h e (a + 1) n)
 
-rule_same : (form i j h : ℕ) → form_text (form_of form) i j h ≡ part_text (rule_of form i j h)
+rule_same : (form i j h : ℕ) → form_text (drawn_form form) i j h ≡ part_text (rule_of form i j h)
 rule_same zero i j h = refl
 rule_same (suc zero) i j h = refl
 rule_same (suc (suc zero)) i j h = refl
@@ -81,8 +81,8 @@ drawn_bound_same x i = refl
 pub parts_text : (n : ℕ) → units n ≡ map part_text (parts n)
 unfolding units rules bounds parts
 parts_text n =
-    let rule : ℕ → Part = λ j. rule_part (after n (3 * (j - 1))) j in
-    let bound : ℕ → Part = λ i. bound_part (after (after n 93) (2 * i)) i in
-    ap (λ (texts : List (List ℕ)). texts ++ bounds (after n 93) 8) (same_row part_text rule (λ j. rule_text (after n (3 * (j - 1))) j) (λ j. drawn_rule_same (after n (3 * (j - 1))) j) 1 31)
-    ∙ ap (λ (texts : List (List ℕ)). map part_text (map rule (range_with_len 1 31)) ++ texts) (same_row part_text bound (λ i. bound_text (after (after n 93) (2 * i)) i) (λ i. drawn_bound_same (after (after n 93) (2 * i)) i) 0 8)
+    let rule : ℕ → Part = λ j. rule_part (draw_after n (3 * (j - 1))) j in
+    let bound : ℕ → Part = λ i. bound_part (draw_after (draw_after n 93) (2 * i)) i in
+    ap (λ (texts : List (List ℕ)). texts ++ bounds (draw_after n 93) 8) (same_row part_text rule (λ j. rule_text (draw_after n (3 * (j - 1))) j) (λ j. drawn_rule_same (draw_after n (3 * (j - 1))) j) 1 31)
+    ∙ ap (λ (texts : List (List ℕ)). map part_text (map rule (range_with_len 1 31)) ++ texts) (same_row part_text bound (λ i. bound_text (draw_after (draw_after n 93) (2 * i)) i) (λ i. drawn_bound_same (draw_after (draw_after n 93) (2 * i)) i) 0 8)
     ∙ sym (map-append part_text (map rule (range_with_len 1 31)) (map bound (range_with_len 0 8)))

@@ -1,4 +1,4 @@
--- Each generated line gives an input of the program: its pieces are names of declared signals, and each says that its signal is on.
+-- Each generated line gives an input of the program: its fields are names of declared signals, and each says that its signal is on.
 use Rattle.std.proofs.Common.{◌≡◌, ℕ, zero, suc, ◌+◌, ◌<◌, Bool, true, false, List, [], ◌∷◌, ◌++◌, take, Option, Some, None, refl, sym, ap, ◌∙◌, subst, arith}
 use Rattle.std.specs.Prelude.{All, IsTrue, codes, map, nat_eq, slice_get}
 use Rattle.std.specs.FinMap.{empty}
@@ -18,14 +18,14 @@ use Rattle.agent_core.specs.Tellings.{tell_all}
 use Rattle.expansion_laws.specs.Sketches.{marks}
 use Rattle.expansion_laws.specs.Numbering.{cells_from}
 use Rattle.expansion_laws.specs.Expansions.{IsExpansion}
-use Rattle.trace_text.specs.Draws.{after, drawn}
-use Rattle.trace_text.specs.Generated.{joined, signal_name, line_text, lines_after, trace_lines}
-use Rattle.trace_text.specs.Inputs.{cell_named, SayAll}
+use Rattle.trace_text.specs.Draws.{draw_after, drawn}
+use Rattle.trace_text.specs.Generated.{joined_by, signal_name, line_text, lines_after, trace_lines}
+use Rattle.trace_text.specs.Inputs.{declared_cell, DenoteAll}
 use Rattle.trace_text.specs.Laws.{IsLine}
-use Rattle.trace_text.specs.Pieces.{pieces}
+use Rattle.trace_text.specs.Fields.{fields}
 use Rattle.trace_text.proofs.GeneratedLines.{trace_line}
 use Rattle.trace_text.proofs.GivenInputs.{told_input}
-use Rattle.trace_text.proofs.TextSayings.{SayTexts, SayTexts-append, value_says, line_says}
+use Rattle.trace_text.proofs.TextDenotations.{SayTexts, SayTexts-append, value_says, line_says}
 use Rattle.generated_laws.specs.GeneratedInputs.{GivesSomeInput}
 use Rattle.generated_laws.specs.GeneratedSurfaces.{signal_cell, number_cell, cells, surface}
 use Rattle.generated_laws.proofs.Parts.{drawn-lt}
@@ -56,14 +56,14 @@ signal_placed j few = same_place (place_of (signal_name j) cells) j (row_passes 
 -- LINES
 
 -- the separator is one byte
-space_joined : (texts : List (List ℕ)) → join_with_byte 32 texts ≡ joined (codes " ") texts
+space_joined : (texts : List (List ℕ)) → join_with_byte 32 texts ≡ joined_by (codes " ") texts
 space_joined [] = refl
 space_joined (text ∷ []) = sym (append-nil text)
 space_joined (text ∷ next ∷ texts) = ap (λ (t : List ℕ). text ++ (32 ∷ t)) (space_joined (next ∷ texts))
 
 -- the line says some tokens
 abbrev IsSaid : CoreProgram → List ℕ → Type 0
-IsSaid p line = (tokens : Constraint) × SayAll p (pieces line) tokens
+IsSaid p line = (tokens : Constraint) × DenoteAll p (fields line) tokens
 
 module _ (n : ℕ) (p : CoreProgram) (is : IsExpansion (surface n) p) where
   -- the cells of the text are those that are declared
@@ -79,7 +79,7 @@ module _ (n : ℕ) (p : CoreProgram) (is : IsExpansion (surface n) p) where
 
   signal_says : (j : ℕ) → j < 32 → SayTexts p (signal_name j ∷ []) ((j, On) ∷ [])
   signal_says j few =
-      let named : cell_named p (signal_name j) ≡ Some j = ap (place_of (signal_name j)) cells_declared ∙ signal_placed j few in
+      let named : declared_cell p (signal_name j) ≡ Some j = ap (place_of (signal_name j)) cells_declared ∙ signal_placed j few in
       value_says p j (signal_cell j) (signal_found j few) named (signal_named j few) (values.Signal true false) tt refl
 
   row_says : (f : ℕ → ℕ) (a count : ℕ) → ((k : ℕ) → f k < 32) → SayTexts p (map (λ k. signal_name (f k)) (range_with_len a count)) (map (λ k. (f k, On)) (range_with_len a count))
@@ -94,15 +94,15 @@ module _ (n : ℕ) (p : CoreProgram) (is : IsExpansion (surface n) p) where
       let row : List ℕ = range_with_len 1 (drawn x 0 4) in
       let texts : List (List ℕ) = map (λ k. signal_name (drawn x k 32)) row in
       let tokens : Constraint = map (λ k. (drawn x k 32, On)) row in
-      (tokens, subst (λ (line : List ℕ). SayAll p (pieces line) tokens) (space_joined texts) (line_says p texts tokens (row_says (λ k. drawn x k 32) 1 (drawn x 0 4) (λ k. drawn-lt x k 32 (omega arith)))))
+      (tokens, subst (λ (line : List ℕ). DenoteAll p (fields line) tokens) (space_joined texts) (line_says p texts tokens (row_says (λ k. drawn x k 32) 1 (drawn x 0 4) (λ k. drawn-lt x k 32 (omega arith)))))
 
   lines_said : (x count : ℕ) → All (IsSaid p) (lines_after x count)
   lines_said x zero = All-nil (IsSaid p)
-  lines_said x (suc count) = let next : ℕ = after x (1 + drawn x 0 4) in All-cons (IsSaid p) (line_text x) (lines_after next count) (line_said x) (lines_said next count)
+  lines_said x (suc count) = let next : ℕ = draw_after x (1 + drawn x 0 4) in All-cons (IsSaid p) (line_text x) (lines_after next count) (line_said x) (lines_said next count)
 
   trace_said : All (IsSaid p) (trace_lines n)
   unfolding trace_lines
-  trace_said = lines_said (after n 109) n
+  trace_said = lines_said (draw_after n 109) n
 
   said_given : (line : List ℕ) → IsLine 11 line → IsSaid p line → GivesSomeInput p line
   said_given line short (tokens, said) =

@@ -1,11 +1,11 @@
 -- What a generated program is made of: rules between signals, and bounds of numbers, as they are drawn. This project's own.
 use Rattle.std.specs.Prelude.{ℕ, zero, suc, ◌-◌, ◌*◌, List, ◌++◌, map}
 use Rattle.std.specs.List.{range_with_len}
-use Rattle.trace_text.specs.Draws.{after, drawn}
+use Rattle.trace_text.specs.Draws.{draw_after, drawn}
 
 -- a rule tells a signal by another one, its guard, and a bound tells the least value of a number
 pub data Part : Type 0 where
-  -- at each instant at which the guard is on; at which it is not; and one instant after it was on
+  -- at each instant at which the guard is on; at which it is not; and one instant draw_after it was on
   Follows : (guard told : ℕ) → Part
   Defaults : (guard told : ℕ) → Part
   Delays : (guard told : ℕ) → Part
@@ -23,14 +23,14 @@ rule_of (suc (suc zero)) g j h = Delays g j
 rule_of (suc (suc (suc zero))) g j h = Starts g j
 rule_of _ g j h = Ends g j h
 
--- the rule for the signal j, by the draws after x
+-- the rule for the signal j, by the draws draw_after x
 abbrev pub rule_part : ℕ → ℕ → Part
 rule_part x j = rule_of (drawn x 1 5) (drawn x 0 j) j (drawn x 2 j)
 
--- the bound of the number i, by the draws after x
+-- the bound of the number i, by the draws draw_after x
 abbrev pub bound_part : ℕ → ℕ → Part
 bound_part x i = Bounds (drawn x 0 32) i (drawn x 1 100)
 
 -- the parts of the program of n: 31 rules, for the signals from 1 on, and then 8 bounds
 unfoldable pub parts : ℕ → List Part
-parts n = map (λ j. rule_part (after n (3 * (j - 1))) j) (range_with_len 1 31) ++ map (λ i. bound_part (after (after n 93) (2 * i)) i) (range_with_len 0 8)
+parts n = map (λ j. rule_part (draw_after n (3 * (j - 1))) j) (range_with_len 1 31) ++ map (λ i. bound_part (draw_after (draw_after n 93) (2 * i)) i) (range_with_len 0 8)

@@ -16,7 +16,7 @@ use Rattle.agent_core.specs.Names.{Names, name_of, local_name, new_of}
 use Rattle.agent_core.specs.Stores.{IsStore}
 use Rattle.agent_core.specs.Scope.{TokenFits}
 use Rattle.agent_core.proofs.Tellings.{tells_one}
-use Rattle.trace_text.specs.Inputs.{cell_named}
+use Rattle.trace_text.specs.Inputs.{declared_cell}
 use Rattle.trace_text.specs.Tellings.{told_one}
 
 -- without births a cell in scope is a declared one
@@ -41,7 +41,7 @@ declared_fits p cell d t lt found fits = record {
 }
 
 -- the cell of a name is a declared one
-pub named_within : (p : CoreProgram) (name : List ℕ) (cell : ℕ) (d : CellDecl) → cell_named p name ≡ Some cell → cell < p.declared
+pub named_within : (p : CoreProgram) (name : List ℕ) (cell : ℕ) (d : CellDecl) → declared_cell p name ≡ Some cell → cell < p.declared
 named_within p name cell d found =
     let at = position-Some (λ (e : CellDecl). pointwise nat_eq e.name name) (take p.declared p.cells) cell d found in
     omega (arith, length-take p.declared p.cells, at.0)
@@ -51,7 +51,7 @@ pub store_told : (p : CoreProgram) (s : StoreMap) (pair : ℕ × Token) → IsSt
 store_told p s pair is f = (tells_one p [] s pair is f).store
 
 -- the cell that was read from the list of cells, by the number that its name has
-pub cell_read : (p : CoreProgram) (cells : List CellDecl) (name : List ℕ) (cell : ℕ) (d : CellDecl) → p.declared ≤ length p.cells → cells ≡ p.cells → cell_named p name ≡ Some cell → d ≡ get_or cells cell d → slice_get p.cells cell ≡ Some d
+pub cell_read : (p : CoreProgram) (cells : List CellDecl) (name : List ℕ) (cell : ℕ) (d : CellDecl) → p.declared ≤ length p.cells → cells ≡ p.cells → declared_cell p name ≡ Some cell → d ≡ get_or cells cell d → slice_get p.cells cell ≡ Some d
 cell_read p cells name cell d all e found is =
     let lt = named_within p name cell d found in
     slice_get_read p.cells (length p.cells) cell d refl (omega arith) (is ∙ ap (λ (xs : List CellDecl). get_or xs cell d) e)

@@ -12,8 +12,8 @@ use Rattle.std.proofs.lemmas.List.Sums.{AllPass-from_list_all}
 use Rattle.agent_core.specs.Strata.{Each}
 use Rattle.trace_text.specs.declared.units.Form.{Form}
 use Rattle.trace_text.specs.declared.units.Form.TheVariants as forms
-use Rattle.trace_text.specs.Draws.{after, drawn}
-use Rattle.trace_text.specs.Generated.{joined, signal_name, number_name, number_text, form_of, form_text, rule_text, bound_text, rules, bounds, signals_text, numbers_text, units, program_text, line_text, lines_after, trace_lines}
+use Rattle.trace_text.specs.Draws.{draw_after, drawn}
+use Rattle.trace_text.specs.Generated.{joined_by, signal_name, number_name, number_text, drawn_form, form_text, rule_text, bound_text, rules, bounds, signals_text, numbers_text, units, program_text, line_text, lines_after, trace_lines}
 use Rattle.trace_text.specs.Laws.{IsLine}
 use Rattle.trace_text.specs.Writing.{separated}
 use Rattle.trace_text.proofs.ValueTokens.{Each-append}
@@ -70,7 +70,7 @@ separated_line s m separator h (text ∷ texts) t =
     longer ((s + m) + (s + m) * length texts) ((s + m) * suc (length texts)) ((separator ++ text) ++ separated separator texts) (omega arith)
     (line-append (s + m) ((s + m) * length texts) (separator ++ text) (separated separator texts) (line-append s m separator text h t.0) (separated_line s m separator h texts t.1))
 
-joined_line : (s m : ℕ) (separator : List ℕ) → IsLine s separator → (texts : List (List ℕ)) → Each (IsLine m) texts → IsLine ((s + m) * length texts - s) (joined separator texts)
+joined_line : (s m : ℕ) (separator : List ℕ) → IsLine s separator → (texts : List (List ℕ)) → Each (IsLine m) texts → IsLine ((s + m) * length texts - s) (joined_by separator texts)
 joined_line s m separator h [] t = written_out ((s + m) * 0 - s) [] refl (omega arith)
 joined_line s m separator h (text ∷ texts) t =
     longer (m + (s + m) * length texts) ((s + m) * suc (length texts) - s) (text ++ separated separator texts) (omega arith)
@@ -81,15 +81,15 @@ row_each : (P : List ℕ → Type 0) (f : ℕ → List ℕ) (a n : ℕ) → ((k 
 row_each P f a zero h = tt
 row_each P f a (suc n) h = (h a (omega arith) (omega arith), row_each P f (a + 1) n (λ k low high. h k (omega arith) (omega arith)))
 
-row_line : (s m : ℕ) (separator : List ℕ) (f : ℕ → List ℕ) (a n : ℕ) → IsLine s separator → ((k : ℕ) → a ≤ k → k < a + n → IsLine m (f k)) → IsLine ((s + m) * n - s) (joined separator (map f (range_with_len a n)))
+row_line : (s m : ℕ) (separator : List ℕ) (f : ℕ → List ℕ) (a n : ℕ) → IsLine s separator → ((k : ℕ) → a ≤ k → k < a + n → IsLine m (f k)) → IsLine ((s + m) * n - s) (joined_by separator (map f (range_with_len a n)))
 row_line s m separator f a n h each =
-    subst (λ (k : ℕ). IsLine ((s + m) * k - s) (joined separator (map f (range_with_len a n)))) (length-map-range_with_len f a n)
+    subst (λ (k : ℕ). IsLine ((s + m) * k - s) (joined_by separator (map f (range_with_len a n)))) (length-map-range_with_len f a n)
     (joined_line s m separator h (map f (range_with_len a n)) (row_each (IsLine m) f a n each))
 
 -- UNITS
 
 drawn-lt : (x k m : ℕ) → 0 < m → drawn x k m < m
-drawn-lt x k m h = mod-lt (after x (k + 1) / 65536) h
+drawn-lt x k m h = mod-lt (draw_after x (k + 1) / 65536) h
 
 pair_line : (a b : ℕ) (before between : List ℕ) (g j : ℕ) → g < 100 → j < 100 → IsLine a before → IsLine b between → IsLine (a + 3 + b + 3) (before ++ signal_name g ++ between ++ signal_name j)
 pair_line a b before between g j hg hj ha hb =
@@ -112,7 +112,7 @@ unfolding rule_text
 rule_line x j low high =
     let guard : drawn x 0 j < j = drawn-lt x 0 j (omega arith) in
     let stop : drawn x 2 j < j = drawn-lt x 2 j (omega arith) in
-    form_line (form_of (drawn x 1 5)) (drawn x 0 j) j (drawn x 2 j) (omega arith) (omega arith) (omega arith)
+    form_line (drawn_form (drawn x 1 5)) (drawn x 0 j) j (drawn x 2 j) (omega arith) (omega arith) (omega arith)
 
 bound_line : (x i : ℕ) → i < 8 → IsLine 25 (bound_text x i)
 unfolding bound_text
@@ -133,7 +133,7 @@ bound_line x i h =
 signals_line : IsLine 167 (signals_text 32)
 unfolding signals_text
 signals_line =
-    let row : List ℕ = joined (codes ", ") (map signal_name (range_with_len 0 32)) in
+    let row : List ℕ = joined_by (codes ", ") (map signal_name (range_with_len 0 32)) in
     line-append 165 2 (codes "signal " ++ row) (codes "; ")
     (line-append 7 158 (codes "signal ") row (written_out 7 (codes "signal ") refl (omega arith)) (row_line 2 3 (codes ", ") signal_name 0 32 (written_out 2 (codes ", ") refl (omega arith)) (λ k low high. signal_line k (omega arith))))
     (written_out 2 (codes "; ") refl (omega arith))
@@ -141,7 +141,7 @@ signals_line =
 numbers_line : IsLine 108 (numbers_text 8)
 unfolding numbers_text
 numbers_line =
-    let row : List ℕ = joined (codes ", ") (map number_text (range_with_len 0 8)) in
+    let row : List ℕ = joined_by (codes ", ") (map number_text (range_with_len 0 8)) in
     line-append 106 2 (codes "int " ++ row) (codes "; ")
     (line-append 4 102 (codes "int ") row (written_out 4 (codes "int ") refl (omega arith))
     (row_line 2 11 (codes ", ") number_text 0 8 (written_out 2 (codes ", ") refl (omega arith))
@@ -151,21 +151,21 @@ numbers_line =
 unit_lines : (n : ℕ) → Each (IsLine 38) (units n)
 unfolding units rules bounds
 unit_lines n =
-    Each-append (IsLine 38) (rules n 31) (bounds (after n 93) 8)
-    (row_each (IsLine 38) (λ j. rule_text (after n (3 * (j - 1))) j) 1 31 (λ j low high. rule_line (after n (3 * (j - 1))) j low (omega arith)))
-    (row_each (IsLine 38) (λ i. bound_text (after (after n 93) (2 * i)) i) 0 8 (λ i low high. longer 25 38 (bound_text (after (after n 93) (2 * i)) i) (omega arith) (bound_line (after (after n 93) (2 * i)) i (omega arith))))
+    Each-append (IsLine 38) (rules n 31) (bounds (draw_after n 93) 8)
+    (row_each (IsLine 38) (λ j. rule_text (draw_after n (3 * (j - 1))) j) 1 31 (λ j low high. rule_line (draw_after n (3 * (j - 1))) j low (omega arith)))
+    (row_each (IsLine 38) (λ i. bound_text (draw_after (draw_after n 93) (2 * i)) i) 0 8 (λ i low high. longer 25 38 (bound_text (draw_after (draw_after n 93) (2 * i)) i) (omega arith) (bound_line (draw_after (draw_after n 93) (2 * i)) i (omega arith))))
 
 length-units : (n : ℕ) → length (units n) ≡ 39
 unfolding units rules bounds
 length-units n =
-    length-append (rules n 31) (bounds (after n 93) 8)
-    ∙ ap (λ (k : ℕ). k + length (bounds (after n 93) 8)) (length-map-range_with_len (λ j. rule_text (after n (3 * (j - 1))) j) 1 31)
-    ∙ ap (λ (k : ℕ). 31 + k) (length-map-range_with_len (λ i. bound_text (after (after n 93) (2 * i)) i) 0 8)
+    length-append (rules n 31) (bounds (draw_after n 93) 8)
+    ∙ ap (λ (k : ℕ). k + length (bounds (draw_after n 93) 8)) (length-map-range_with_len (λ j. rule_text (draw_after n (3 * (j - 1))) j) 1 31)
+    ∙ ap (λ (k : ℕ). 31 + k) (length-map-range_with_len (λ i. bound_text (draw_after (draw_after n 93) (2 * i)) i) 0 8)
 
 pub program_line : (n : ℕ) → IsLine 2000 (program_text n)
 unfolding program_text
 program_line n =
-    let all : List ℕ = joined (codes " || ") (units n) in
+    let all : List ℕ = joined_by (codes " || ") (units n) in
     let body : IsLine (42 * length (units n) - 4) all = joined_line 4 38 (codes " || ") (written_out 4 (codes " || ") refl (omega arith)) (units n) (unit_lines n) in
     longer (275 + (42 * length (units n) - 4)) 2000 ((signals_text 32 ++ numbers_text 8) ++ all) (omega (arith, length-units n))
     (line-append 275 (42 * length (units n) - 4) (signals_text 32 ++ numbers_text 8) all (line-append 167 108 (signals_text 32) (numbers_text 8) signals_line numbers_line) body)
@@ -177,21 +177,21 @@ unfolding line_text
 line_line x =
     let few : drawn x 0 4 < 4 = drawn-lt x 0 4 (omega arith) in
     let row : ℕ → List ℕ = λ k. signal_name (drawn x k 32) in
-    longer (4 * drawn x 0 4 - 1) 11 (joined (codes " ") (map row (range_with_len 1 (drawn x 0 4)))) (omega arith)
+    longer (4 * drawn x 0 4 - 1) 11 (joined_by (codes " ") (map row (range_with_len 1 (drawn x 0 4)))) (omega arith)
     (row_line 1 3 (codes " ") row 1 (drawn x 0 4) (written_out 1 (codes " ") refl (omega arith)) (λ k low high. let small : drawn x k 32 < 32 = drawn-lt x k 32 (omega arith) in signal_line (drawn x k 32) (omega arith)))
 
 length-lines : (x n : ℕ) → length (lines_after x n) ≡ n
 length-lines x zero = refl
-length-lines x (suc n) = ap suc (length-lines (after x (1 + drawn x 0 4)) n)
+length-lines x (suc n) = ap suc (length-lines (draw_after x (1 + drawn x 0 4)) n)
 
 pub length-trace : (n : ℕ) → length (trace_lines n) ≡ n
 unfolding trace_lines
-length-trace n = length-lines (after n 109) n
+length-trace n = length-lines (draw_after n 109) n
 
 lines_lines : (x n : ℕ) → All (IsLine 11) (lines_after x n)
 lines_lines x zero = All-nil (IsLine 11)
-lines_lines x (suc n) = All-cons (IsLine 11) (line_text x) (lines_after (after x (1 + drawn x 0 4)) n) (line_line x) (lines_lines (after x (1 + drawn x 0 4)) n)
+lines_lines x (suc n) = All-cons (IsLine 11) (line_text x) (lines_after (draw_after x (1 + drawn x 0 4)) n) (line_line x) (lines_lines (draw_after x (1 + drawn x 0 4)) n)
 
 pub trace_line : (n : ℕ) → All (IsLine 11) (trace_lines n)
 unfolding trace_lines
-trace_line n = lines_lines (after n 109) n
+trace_line n = lines_lines (draw_after n 109) n

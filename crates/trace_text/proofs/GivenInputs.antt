@@ -20,8 +20,8 @@ use Rattle.agent_core.specs.Tellings.{tell_at, tell_all}
 use Rattle.agent_core.proofs.OneStore.{Below-antisym}
 use Rattle.token_system.proofs.Telling.{equal_names}
 use Rattle.agent_core.proofs.Tellings.{empty-IsStore, empty-Below, tell_all-least, tell_all-entails}
-use Rattle.trace_text.specs.Pieces.{pieces}
-use Rattle.trace_text.specs.Inputs.{SayAll, GivesInput}
+use Rattle.trace_text.specs.Fields.{fields}
+use Rattle.trace_text.specs.Inputs.{DenoteAll, GivesInput}
 use Rattle.trace_text.proofs.DeclaredTokens.{in_scope}
 use Rattle.trace_text.proofs.Sayings.{say_all_fit, say_all_one}
 
@@ -52,9 +52,9 @@ tell_all_declared p (pair ∷ ask) s fits only = tell_all_declared p ask (tell_a
     go (Some d) = subst (λ (n : CellName). DeclaredOnly (after_tell s n d.cell pair.1)) (sym (in_scope p pair fits.0)) (told_declared s pair.0 d.cell pair.1 only)
 
 -- what is after_tell to the store of which nothing is after_tell is the line's input
-pub told_input : (p : CoreProgram) (line : List ℕ) (tokens : Constraint) (i : StoreMap) → length line ≤ 32768 → SayAll p (pieces line) tokens → i ≡ tell_all p [] tokens empty → GivesInput p line i
+pub told_input : (p : CoreProgram) (line : List ℕ) (tokens : Constraint) (i : StoreMap) → length line ≤ 32768 → DenoteAll p (fields line) tokens → i ≡ tell_all p [] tokens empty → GivesInput p line i
 told_input p line tokens i short said after_tell =
-    let fits = say_all_fit p (pieces line) tokens said in
+    let fits = say_all_fit p (fields line) tokens said in
     let least = tell_all-least p [] tokens empty (empty-IsStore p) fits in
     subst (GivesInput p line) (sym after_tell) (record {
       short = short;
@@ -68,7 +68,7 @@ told_input p line tokens i short said after_tell =
 -- a line gives one input
 pub one_input : (p : CoreProgram) (line : List ℕ) (i j : StoreMap) → GivesInput p line i → GivesInput p line j → i ≡ j
 one_input p line i j x y =
-    let same : x.tokens ≡ y.tokens = say_all_one p (pieces line) x.tokens y.tokens x.said y.said in
+    let same : x.tokens ≡ y.tokens = say_all_one p (fields line) x.tokens y.tokens x.said y.said in
     Below-antisym p i j x.input.store y.input.store
     (x.least j y.input.store (subst (λ (a : Constraint). IsTrue (entails p [] j a)) (sym same) y.tells))
     (y.least i x.input.store (subst (λ (a : Constraint). IsTrue (entails p [] i a)) same x.tells))

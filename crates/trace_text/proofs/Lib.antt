@@ -8,7 +8,7 @@ pub mod Written
 pub mod CellWidths
 pub mod TokenTexts
 pub mod ValueTokens
-pub mod TextSayings
+pub mod TextDenotations
 pub mod ReadBack
 pub mod TextDecisions
 pub mod LineDecisions

@@ -16,20 +16,20 @@ use Rattle.agent_core.specs.Programs.{CoreProgram}
 use Rattle.agent_core.specs.Tellings.{tell_all}
 use Rattle.trace_text.specs.declared.fault.LineFault.{LineFault}
 use Rattle.trace_text.specs.declared.fault.LineFault.TheVariants.{BadToken, UnknownName, WrongKind, LineTooLong, Memory}
-use Rattle.trace_text.specs.Pieces.{Piece, pieces}
-use Rattle.trace_text.specs.Inputs.{cell_named, name_in, text_fits, tokens_of, NamesCell, Says, SayAll}
-use Rattle.trace_text.specs.Refusals.{RefusesPiece, IsFirstRefused, RefusesPieces}
+use Rattle.trace_text.specs.Fields.{Field, fields}
+use Rattle.trace_text.specs.Inputs.{declared_cell, name_in, text_fits, tokens_of, NamesCell, Denotes, DenoteAll}
+use Rattle.trace_text.specs.Refusals.{RefusesField, IsFirstRefused, RefusesFields}
 use Rattle.trace_text.specs.Laws.{IsRead}
 use Rattle.trace_text.proofs.GivenInputs.{told_input}
 use Rattle.trace_text.proofs.Refused.{first_refused, line_refused}
 use Rattle.trace_text.proofs.TextDecisions.{decide_text}
 
 -- the piece says tokens, or it has a fault
-abbrev IsPieceRead : CoreProgram → Piece → Type 0
-IsPieceRead p x = ((tokens : Constraint) × Says p x.bytes tokens) ⊎ ((f : LineFault) × (f ≢ Memory) × RefusesPiece p x f)
+abbrev IsPieceRead : CoreProgram → Field → Type 0
+IsPieceRead p x = ((tokens : Constraint) × Denotes p x.bytes tokens) ⊎ ((f : LineFault) × (f ≢ Memory) × RefusesField p x f)
 
 -- the cell of a name that is declared
-found_cell : (p : CoreProgram) (name : List ℕ) (cell : ℕ) (d : CellDecl) → cell_named p name ≡ Some cell → (e : CellDecl) × (slice_get p.cells cell ≡ Some e)
+found_cell : (p : CoreProgram) (name : List ℕ) (cell : ℕ) (d : CellDecl) → declared_cell p name ≡ Some cell → (e : CellDecl) × (slice_get p.cells cell ≡ Some e)
 found_cell p name cell d named = go (slice_get_cases p.cells cell).1
   where
     lt : cell < length p.cells
@@ -39,12 +39,12 @@ found_cell p name cell d named = go (slice_get_cases p.cells cell).1
     go (inl (e, within, at, read)) = (e, at)
     go (inr (past, none)) = absurd (let h = lt in omega arith)
 
-module _ (p : CoreProgram) (x : Piece) where
+module _ (p : CoreProgram) (x : Field) where
   fitted : (w : Written) (cell : ℕ) (d : CellDecl) → NamesCell p x.bytes w cell d → (b : Bool) → text_fits d.cell w ≡ b → IsPieceRead p x
   fitted w cell d names true e = inl (tokens_of cell w, record { written = w; cell = cell; decl = d; names = names; fits = e; meant = refl })
   fitted w cell d names false e = inr (WrongKind x.offset, (λ m. let wrong : WrongKind x.offset ≡ Memory = m in cc), (refl, w, cell, d, names, e))
 
-  named : (w : Written) → IsTokenText x.bytes w → (o : Option ℕ) → cell_named p (name_in x.bytes w) ≡ o → IsPieceRead p x
+  named : (w : Written) → IsTokenText x.bytes w → (o : Option ℕ) → declared_cell p (name_in x.bytes w) ≡ o → IsPieceRead p x
   named w text None e = inr (UnknownName x.offset, (λ m. let wrong : UnknownName x.offset ≡ Memory = m in cc), (refl, w, text, e))
   named w text (Some cell) e =
       let d = found_cell p (name_in x.bytes w) cell (record { name = []; cell = record { kind = kinds.Signal; lo = pos 0; hi = pos 0; lawful = refl } }) e in
@@ -54,14 +54,14 @@ module _ (p : CoreProgram) (x : Piece) where
   decide_piece = go (decide_text x.bytes)
     where
       go : ((w : Written) × IsTokenText x.bytes w) ⊎ ((w : Written) → IsTokenText x.bytes w → ⊥) → IsPieceRead p x
-      go (inl (w, text)) = named w text (cell_named p (name_in x.bytes w)) refl
+      go (inl (w, text)) = named w text (declared_cell p (name_in x.bytes w)) refl
       go (inr none) = inr (BadToken x.offset, (λ m. let wrong : BadToken x.offset ≡ Memory = m in cc), (refl, none))
 
--- the pieces say tokens, or one of them is the first that has a fault
-abbrev ArePiecesRead : CoreProgram → List Piece → Type 0
-ArePiecesRead p all = ((tokens : Constraint) × SayAll p all tokens) ⊎ ((f : LineFault) × (f ≢ Memory) × IsFirstRefused p all f)
+-- the fields say tokens, or one of them is the first that has a fault
+abbrev ArePiecesRead : CoreProgram → List Field → Type 0
+ArePiecesRead p all = ((tokens : Constraint) × DenoteAll p all tokens) ⊎ ((f : LineFault) × (f ≢ Memory) × IsFirstRefused p all f)
 
-decide_pieces : (p : CoreProgram) (all : List Piece) → ArePiecesRead p all
+decide_pieces : (p : CoreProgram) (all : List Field) → ArePiecesRead p all
 decide_pieces p [] = inl ([], refl)
 decide_pieces p (x ∷ all) = go (decide_piece p x) (decide_pieces p all)
   where
@@ -75,24 +75,24 @@ decide_pieces p (x ∷ all) = go (decide_piece p x) (decide_pieces p all)
         before = x ∷ r.before;
         piece = r.piece;
         after = r.after;
-        parts = ap (λ (xs : List Piece). x ∷ xs) r.parts;
+        parts = ap (λ (xs : List Field). x ∷ xs) r.parts;
         tokens = first ++ r.tokens;
         accepted = (first, r.tokens, here, r.accepted, refl);
         refused = r.refused;
       },
     )
 
--- a first refused piece is the fault of the pieces
-refuses_pieces : (p : CoreProgram) (all : List Piece) (f : LineFault) → IsFirstRefused p all f → RefusesPieces p all f
+-- a first refused piece is the fault of the fields
+refuses_pieces : (p : CoreProgram) (all : List Field) (f : LineFault) → IsFirstRefused p all f → RefusesFields p all f
 refuses_pieces p all f r = first_refused p all r.before r.piece r.after r.tokens f r.parts r.accepted r.refused
 
 pub decide_line : (p : CoreProgram) (line : List ℕ) → IsRead p line
 decide_line p line = go (leb_tells (length line) 32768)
   where
-    within : length line ≤ 32768 → ArePiecesRead p (pieces line) → IsRead p line
+    within : length line ≤ 32768 → ArePiecesRead p (fields line) → IsRead p line
     within short (inl (tokens, said)) = inl (tell_all p [] tokens empty, told_input p line tokens (tell_all p [] tokens empty) short said refl)
-    within short (inr (f, other, r)) = inr (f, other, line_refused p line f short (refuses_pieces p (pieces line) f r))
+    within short (inr (f, other, r)) = inr (f, other, line_refused p line f short (refuses_pieces p (fields line) f r))
 
     go : ((nat_le (length line) 32768 ≡ true) × (length line ≤ 32768)) ⊎ ((nat_le (length line) 32768 ≡ false) × (32768 < length line)) → IsRead p line
-    go (inl (t, short)) = within short (decide_pieces p (pieces line))
+    go (inl (t, short)) = within short (decide_pieces p (fields line))
     go (inr (t, long)) = inr (LineTooLong, (λ m. let wrong : LineTooLong ≡ Memory = m in cc), long)

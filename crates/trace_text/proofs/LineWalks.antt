@@ -12,9 +12,9 @@ use Rattle.agent_core.specs.Stores.{IsStore}
 use Rattle.agent_core.specs.Tellings.{tell_all}
 use Rattle.agent_core.proofs.Tellings.{empty-IsStore, tell_all-least}
 use Rattle.trace_text.specs.declared.fault.LineFault.{LineFault}
-use Rattle.trace_text.specs.Pieces.{Piece, is_blank, is_some, placed, pieces}
-use Rattle.trace_text.specs.Inputs.{SayAll}
-use Rattle.trace_text.specs.Refusals.{RefusesPiece, RefusesPieces}
+use Rattle.trace_text.specs.Fields.{Field, is_blank, is_some, placed_fields, fields}
+use Rattle.trace_text.specs.Inputs.{DenoteAll}
+use Rattle.trace_text.specs.Refusals.{RefusesField, RefusesFields}
 use Rattle.trace_text.specs.Tellings.{TellsPiece, TellsPieces}
 use Rattle.trace_text.proofs.Sayings.{say_all_fit, say_all-append, say_one, tell_all-append}
 use Rattle.trace_text.proofs.Refused.{first_refused}
@@ -24,9 +24,9 @@ abbrev pub span : List (List ℕ) → ℕ
 span [] = 0
 span (part ∷ parts) = length part + 1 + span parts
 
--- the pieces among parts of which the first stands at this place
-abbrev pub pieces_from : ℕ → List (List ℕ) → List Piece
-pieces_from offset parts = filter (λ (piece : Piece). is_some piece.bytes) (placed offset parts)
+-- the fields among parts of which the first stands at this place
+abbrev pub pieces_from : ℕ → List (List ℕ) → List Field
+pieces_from offset parts = filter (λ (piece : Field). is_some piece.bytes) (placed_fields offset parts)
 
 span-onto : (b : ℕ) (parts : List (List ℕ)) (n : ℕ) → span parts ≡ n + 1 → span (onto_first b parts) ≡ suc n + 1
 span-onto b [] n e = absurd (omega arith)
@@ -40,12 +40,12 @@ span-split (b ∷ line) = go (is_blank b) (span-split line)
     go true h = omega arith
     go false h = span-onto b (slice_split is_blank line) (length line) h
 
--- these parts of the line are left, of which the first stands at this place, and the pieces before them were told to the store
+-- these parts of the line are left, of which the first stands at this place, and the fields before them were told to the store
 pub record ReadSoFar (p : CoreProgram) (line : List ℕ) (rest : List (List ℕ)) (offset : ℕ) (s : StoreMap) : Type 0 where
-  pub before : List Piece
-  pub whole : pieces line ≡ before ++ pieces_from offset rest
+  pub before : List Field
+  pub whole : fields line ≡ before ++ pieces_from offset rest
   pub tokens : Constraint
-  pub said : SayAll p before tokens
+  pub said : DenoteAll p before tokens
   pub told : s ≡ tell_all p [] tokens empty
   pub left : offset + span rest ≡ length line + 1
 
@@ -57,10 +57,10 @@ module _ (p : CoreProgram) (line : List ℕ) where
   read-store rest offset s r =
       subst (IsStore p) (sym r.told) (tell_all-least p [] r.tokens empty (empty-IsStore p) (say_all_fit p r.before r.tokens r.said)).store
 
-  pub read-end : (offset : ℕ) (old s : StoreMap) → old ≡ empty → ReadSoFar p line [] offset s → TellsPieces p (pieces line) old s
+  pub read-end : (offset : ℕ) (old s : StoreMap) → old ≡ empty → ReadSoFar p line [] offset s → TellsPieces p (fields line) old s
   read-end offset old s e r = record {
     tokens = r.tokens;
-    said = subst (λ (all : List Piece). SayAll p all r.tokens) (sym (r.whole ∙ append-nil r.before)) r.said;
+    said = subst (λ (all : List Field). DenoteAll p all r.tokens) (sym (r.whole ∙ append-nil r.before)) r.said;
     told = r.told ∙ ap (tell_all p [] r.tokens) (sym e);
   }
 
@@ -84,7 +84,7 @@ module _ (p : CoreProgram) (line : List ℕ) where
     }
 
     module _ (some : is_some part ≡ true) where
-      here : pieces line ≡ r.before ++ record { offset = offset; bytes = part } ∷ pieces_from (offset + (length part + 1)) rest
+      here : fields line ≡ r.before ++ record { offset = offset; bytes = part } ∷ pieces_from (offset + (length part + 1)) rest
       here = r.whole ∙ ap (λ b. r.before ++ cond b (record { offset = offset; bytes = part } ∷ pieces_from (offset + (length part + 1)) rest) (pieces_from (offset + (length part + 1)) rest)) some
 
       -- a piece is told
@@ -99,8 +99,8 @@ module _ (p : CoreProgram) (line : List ℕ) where
       }
 
       -- or refused
-      pub read-refused : (f : LineFault) → RefusesPiece p (record { offset = offset; bytes = part }) f → RefusesPieces p (pieces line) f
-      read-refused f h = first_refused p (pieces line) r.before (record { offset = offset; bytes = part }) (pieces_from (offset + (length part + 1)) rest) r.tokens f here r.said h
+      pub read-refused : (f : LineFault) → RefusesField p (record { offset = offset; bytes = part }) f → RefusesFields p (fields line) f
+      read-refused f h = first_refused p (fields line) r.before (record { offset = offset; bytes = part }) (pieces_from (offset + (length part + 1)) rest) r.tokens f here r.said h
 
 -- the part that comes next in a list of parts
 pub read-at : (p : CoreProgram) (line : List ℕ) (parts : List (List ℕ)) (k offset : ℕ) (s : StoreMap) (part : List ℕ) → (k < length parts) × (part ≡ get_or parts k part)

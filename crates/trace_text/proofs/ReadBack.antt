@@ -23,13 +23,13 @@ use Rattle.agent_core.specs.Stores.{IsStore, IsInput, Below}
 use Rattle.agent_core.specs.Strata.{Each}
 use Rattle.agent_core.proofs.Bools.{both, first_of_both, second_of_both}
 use Rattle.agent_core.proofs.OneStore.{value_at-fits}
-use Rattle.trace_text.specs.Inputs.{cell_named, GivesInput}
+use Rattle.trace_text.specs.Inputs.{declared_cell, GivesInput}
 use Rattle.trace_text.specs.Laws.{HasOwnNames, IsDeclaredPart}
 use Rattle.trace_text.specs.StoreLines.{cell_texts, store_line, value_texts}
 use Rattle.trace_text.specs.Writing.{spaced}
 use Rattle.trace_text.proofs.DeclaredTokens.{declared_name}
 use Rattle.trace_text.proofs.GivenInputs.{one_input}
-use Rattle.trace_text.proofs.TextSayings.{SayTexts, SayTexts-append, line_says, texts_short, cell_ask, value_says, few_texts}
+use Rattle.trace_text.proofs.TextDenotations.{SayTexts, SayTexts-append, line_says, texts_short, cell_ask, value_says, few_texts}
 use Rattle.trace_text.proofs.ValueTokens.{Entails, value_tokens, value_held, value_covered}
 use Rattle.trace_text.proofs.Written.{spaced-append, spaced-join}
 
@@ -57,7 +57,7 @@ first_at test (y ∷ xs) i (suc n) x e h before =
     ∙ ap Some (let k : i + 1 + n ≡ i + suc n = omega arith in k)
 
 -- a declared cell with a name of its own is the cell of that name
-own_named : (p : CoreProgram) (n : ℕ) (d : CellDecl) → HasOwnNames p → n < p.declared → slice_get p.cells n ≡ Some d → cell_named p d.name ≡ Some n
+own_named : (p : CoreProgram) (n : ℕ) (d : CellDecl) → HasOwnNames p → n < p.declared → slice_get p.cells n ≡ Some d → declared_cell p d.name ≡ Some n
 own_named p n d names lt found =
     position_from-zero (λ (e : CellDecl). pointwise nat_eq e.name d.name) (take p.declared p.cells)
     ∙ first_at (λ (e : CellDecl). pointwise nat_eq e.name d.name) (take p.declared p.cells) 0 n d (at_front p.declared n p.cells d lt found) ((bytes_decides d.name d.name).1 refl) before

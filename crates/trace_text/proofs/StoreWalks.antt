@@ -22,7 +22,7 @@ use Rattle.token_system.proofs.Alike.{true_false}
 use Rattle.token_system.proofs.Places.{first_of_both, second_of_both, less_is}
 use Rattle.token_system.proofs.Telling.{equal_names}
 use Rattle.agent_core.specs.declared.node.CellDecl.{CellDecl}
-use Rattle.trace_text.specs.StoreLines.{cell_named, cell_texts, told_texts, value_texts}
+use Rattle.trace_text.specs.StoreLines.{cell_of_name, cell_texts, told_texts, value_texts}
 
 -- the texts of a cell, where there is one, that has this value
 abbrev pub texts_of : Option CellDecl → Value → List (List ℕ)
@@ -32,7 +32,7 @@ texts_of (Some d) x = value_texts d.name d.cell x
 -- the texts of the entries that name one of the cells
 abbrev pub entry_texts : List CellDecl → List (CellName × Value) → List (List ℕ)
 entry_texts cells [] = []
-entry_texts cells (e ∷ es) = texts_of (cell_named cells e.0) e.1 ++ entry_texts cells es
+entry_texts cells (e ∷ es) = texts_of (cell_of_name cells e.0) e.1 ++ entry_texts cells es
 
 -- no declared cell below n has the name
 abbrev IsFrom : ℕ → CellName → Type 0
@@ -108,7 +108,7 @@ texts-beyond : (cells : List CellDecl) (es : List (CellName × Value)) → AllFr
 texts-beyond cells [] h = refl
 texts-beyond cells (e ∷ es) h = ap (λ (c : Option CellDecl). texts_of c e.1 ++ entry_texts cells es) (none e.0 h.0) ∙ texts-beyond cells es h.1
   where
-    none : (x : CellName) → IsFrom (length cells) x → cell_named cells x ≡ None
+    none : (x : CellName) → IsFrom (length cells) x → cell_of_name cells x ≡ None
     none (Declared m) le = slice_get_past cells m le
     none (Local node births) h = refl
 
@@ -119,10 +119,10 @@ past xs i none = elim (slice_get_cases xs i).1 [
 ]
 
 -- where one name is beyond the cells, all later ones are
-pub texts-end : (cells : List CellDecl) (e : CellName × Value) (es : List (CellName × Value)) → T (is_sorted name_cmp (e ∷ es)) → cell_named cells e.0 ≡ None → entry_texts cells (e ∷ es) ≡ []
+pub texts-end : (cells : List CellDecl) (e : CellName × Value) (es : List (CellName × Value)) → T (is_sorted name_cmp (e ∷ es)) → cell_of_name cells e.0 ≡ None → entry_texts cells (e ∷ es) ≡ []
 texts-end cells e es s none = texts-beyond cells (e ∷ es) (here, all_less (length cells) (suc (length cells)) es (omega arith) (all_later (length cells) e.0 es here (first_of_both _ _ s)))
   where
-    beyond : (x : CellName) → cell_named cells x ≡ None → IsFrom (length cells) x
+    beyond : (x : CellName) → cell_of_name cells x ≡ None → IsFrom (length cells) x
     beyond (Declared m) e = past cells m e
     beyond (Local node births) e = tt
 
@@ -152,7 +152,7 @@ module _ (cells : List CellDecl) (v : StoreMap) where
   cell-kept d later n e es read name kept rest =
       ap (λ (o : Option Value). value_texts d.name d.cell (unwrap_or o (bottom_of d.cell)) ++ cell_texts (suc n) later v) kept
       ∙ ap (λ (texts : List (List ℕ)). value_texts d.name d.cell e.1 ++ texts) rest
-      ∙ ap (λ (c : Option CellDecl). texts_of c e.1 ++ entry_texts cells es) (sym (ap (cell_named cells) (sym name) ∙ read))
+      ∙ ap (λ (c : Option CellDecl). texts_of c e.1 ++ entry_texts cells es) (sym (ap (cell_of_name cells) (sym name) ∙ read))
 
   holds_later : (n : ℕ) (e : CellName × Value) (es : List (CellName × Value)) → Declared n ≡ e.0 → HoldsFrom n (e ∷ es) → HoldsFrom (suc n) es
   holds_later n e es name holds k le = go (eq_by_cmp name_cmp (Declared k) e.0) refl
@@ -218,7 +218,7 @@ module _ (v : StoreMap) (p : ℕ) (n : CellName) (key : slice_get (map.keys v) p
       split ∙ ap (λ (e : CellName × Value). e ∷ drop (suc p) (map.entries v)) (ap (λ (m : CellName). (m, at_hand.1)) its_name ∙ ap (λ (y : Value). (n, y)) same)
 
   -- where the name is beyond the cells, no texts are left
-  pub texts-after : (cells : List CellDecl) → cell_named cells n ≡ None → entry_texts cells (drop p (map.entries v)) ≡ []
+  pub texts-after : (cells : List CellDecl) → cell_of_name cells n ≡ None → entry_texts cells (drop p (map.entries v)) ≡ []
   texts-after cells none =
       ap (entry_texts cells) split
-      ∙ texts-end cells at_hand (drop (suc p) (map.entries v)) (subst (λ (es : List (CellName × Value)). T (is_sorted name_cmp es)) split (sorted-drop p (map.entries v) (map.entries_sorted v))) (ap (cell_named cells) its_name ∙ none)
+      ∙ texts-end cells at_hand (drop (suc p) (map.entries v)) (subst (λ (es : List (CellName × Value)). T (is_sorted name_cmp es)) split (sorted-drop p (map.entries v) (map.entries_sorted v))) (ap (cell_of_name cells) its_name ∙ none)

@@ -16,7 +16,7 @@ use Rattle.token_system.proofs.Alike.{true_false}
 use Rattle.token_system.proofs.NameFronts.{name_bytes}
 use Rattle.agent_core.specs.Strata.{Each}
 use Rattle.agent_core.proofs.Bools.{both, first_of_both, second_of_both}
-use Rattle.trace_text.specs.Pieces.{is_blank, is_some}
+use Rattle.trace_text.specs.Fields.{is_blank, is_some}
 
 abbrev pub not_blank : ℕ → Bool
 not_blank b = not (is_blank b)

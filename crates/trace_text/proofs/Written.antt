@@ -14,7 +14,7 @@ use Rattle.token_system.specs.Stores.{StoreMap}
 use Rattle.token_system.specs.Texts.{text_of}
 use Rattle.token_system.specs.declared.name.CellName.{CellName}
 use Rattle.agent_core.specs.declared.node.CellDecl.{CellDecl}
-use Rattle.trace_text.specs.StoreLines.{bound_texts, cell_named, cell_texts, exact_text, text_if, value_texts}
+use Rattle.trace_text.specs.StoreLines.{bound_texts, cell_of_name, cell_texts, exact_text, text_if, value_texts}
 use Rattle.trace_text.specs.Writing.{spaced, Grows}
 use Rattle.trace_text.proofs.StoreWalks.{cells-entries, entries-from, entry_texts, texts_of, texts-after}
 
@@ -90,7 +90,7 @@ cells-start cells v start = record { rest = ap (λ (texts : List (List ℕ)). st
 
 module _ (cells : List CellDecl) (v : StoreMap) (place : ℕ) (start now : List ℕ) (w : CellsWritten cells v place start now) where
   -- one name more
-  pub cells-step : (n : CellName) (d : CellDecl) (x : Value) (after : List ℕ) → slice_get (map.keys v) place ≡ Some n → slice_get (map.values v) place ≡ Some x → cell_named cells n ≡ Some d
+  pub cells-step : (n : CellName) (d : CellDecl) (x : Value) (after : List ℕ) → slice_get (map.keys v) place ≡ Some n → slice_get (map.values v) place ≡ Some x → cell_of_name cells n ≡ Some d
       → after ≡ now ++ spaced (value_texts d.name d.cell x) → CellsWritten cells v (place + 1) start after
   cells-step n d x after key value named written =
       let own : List ℕ = spaced (value_texts d.name d.cell x) in
@@ -109,7 +109,7 @@ module _ (cells : List CellDecl) (v : StoreMap) (place : ℕ) (start now : List 
   cells-none none = sym (append-nil now) ∙ ap (λ (texts : List (List ℕ)). now ++ spaced texts) (sym none) ∙ w.rest
 
   -- the name is that of no cell, and so are the later ones
-  pub cells-beyond : (n : CellName) → slice_get (map.keys v) place ≡ Some n → cell_named cells n ≡ None → now ≡ start ++ spaced (cell_texts 0 cells v)
+  pub cells-beyond : (n : CellName) → slice_get (map.keys v) place ≡ Some n → cell_of_name cells n ≡ None → now ≡ start ++ spaced (cell_texts 0 cells v)
   cells-beyond n key none = cells-none (texts-after v place n key cells none)
 
   -- all names

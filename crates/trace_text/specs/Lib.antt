@@ -1,4 +1,4 @@
-pub mod Pieces
+pub mod Fields
 pub mod Inputs
 pub mod Refusals
 pub mod Tellings

@@ -7,34 +7,34 @@ use Rattle.agent_core.specs.Agents.{Constraint}
 use Rattle.agent_core.specs.Programs.{CoreProgram}
 use Rattle.trace_text.specs.declared.fault.LineFault.{LineFault}
 use Rattle.trace_text.specs.declared.fault.LineFault.TheVariants.{BadToken, UnknownName, WrongKind, LineTooLong, Memory}
-use Rattle.trace_text.specs.Pieces.{Piece, pieces}
-use Rattle.trace_text.specs.Inputs.{cell_named, name_in, text_fits, NamesCell, SayAll}
+use Rattle.trace_text.specs.Fields.{Field, fields}
+use Rattle.trace_text.specs.Inputs.{declared_cell, name_in, text_fits, NamesCell, DenoteAll}
 
 -- The piece has the fault, at its own place: it is no text of a token, its name is that of no declared cell, or its token does not fit the cell of that name.
 -- Want of memory says nothing of a piece.
-abbrev pub RefusesPiece : CoreProgram → Piece → LineFault → Type 0
-RefusesPiece p piece (BadToken offset) = (offset ≡ piece.offset) × ((w : Written) → IsTokenText piece.bytes w → ⊥)
-RefusesPiece p piece (UnknownName offset) = (offset ≡ piece.offset) × (w : Written) × IsTokenText piece.bytes w × (cell_named p (name_in piece.bytes w) ≡ None)
-RefusesPiece p piece (WrongKind offset) = (offset ≡ piece.offset) × (w : Written) × (cell : ℕ) × (d : CellDecl) × NamesCell p piece.bytes w cell d × (text_fits d.cell w ≡ false)
-RefusesPiece p piece LineTooLong = ⊥
-RefusesPiece p piece Memory = Unit {0}
+abbrev pub RefusesField : CoreProgram → Field → LineFault → Type 0
+RefusesField p piece (BadToken offset) = (offset ≡ piece.offset) × ((w : Written) → IsTokenText piece.bytes w → ⊥)
+RefusesField p piece (UnknownName offset) = (offset ≡ piece.offset) × (w : Written) × IsTokenText piece.bytes w × (declared_cell p (name_in piece.bytes w) ≡ None)
+RefusesField p piece (WrongKind offset) = (offset ≡ piece.offset) × (w : Written) × (cell : ℕ) × (d : CellDecl) × NamesCell p piece.bytes w cell d × (text_fits d.cell w ≡ false)
+RefusesField p piece LineTooLong = ⊥
+RefusesField p piece Memory = Unit {0}
 
--- one of the pieces has the fault, and each before it says tokens, so that none of those is refused
-pub record IsFirstRefused (p : CoreProgram) (all : List Piece) (fault : LineFault) : Type 0 where
-  pub before : List Piece
-  pub piece : Piece
-  pub after : List Piece
+-- one of the fields has the fault, and each before it says tokens, so that none of those is refused
+pub record IsFirstRefused (p : CoreProgram) (all : List Field) (fault : LineFault) : Type 0 where
+  pub before : List Field
+  pub piece : Field
+  pub after : List Field
   pub parts : all ≡ before ++ piece ∷ after
   pub tokens : Constraint
-  pub accepted : SayAll p before tokens
-  pub refused : RefusesPiece p piece fault
+  pub accepted : DenoteAll p before tokens
+  pub refused : RefusesField p piece fault
 
--- the fault is that of the first piece that is refused; want of memory says nothing of the pieces
-abbrev pub RefusesPieces : CoreProgram → List Piece → LineFault → Type 0
-RefusesPieces p all Memory = Unit {0}
-RefusesPieces p all fault = IsFirstRefused p all fault
+-- the fault is that of the first piece that is refused; want of memory says nothing of the fields
+abbrev pub RefusesFields : CoreProgram → List Field → LineFault → Type 0
+RefusesFields p all Memory = Unit {0}
+RefusesFields p all fault = IsFirstRefused p all fault
 
 -- The line has the fault: it is over the limit of bytes, or it is within it and its first refused piece has the fault. Want of memory says no more than that the line is within the limit.
 abbrev pub RefusesLine : CoreProgram → List ℕ → LineFault → Type 0
 RefusesLine p line LineTooLong = 32768 < length line
-RefusesLine p line fault = (length line ≤ 32768) × RefusesPieces p (pieces line) fault
+RefusesLine p line fault = (length line ≤ 32768) × RefusesFields p (fields line) fault

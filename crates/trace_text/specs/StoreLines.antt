@@ -47,9 +47,9 @@ cell_texts n [] v = []
 cell_texts n (d ∷ later) v = value_texts d.name d.cell (value_at v (Declared n) d.cell) ++ cell_texts (suc n) later v
 
 -- the cell that a name has among these, if it has one
-abbrev pub cell_named : List CellDecl → CellName → Option CellDecl
-cell_named cells (Declared n) = slice_get cells n
-cell_named cells (Local node births) = None
+abbrev pub cell_of_name : List CellDecl → CellName → Option CellDecl
+cell_of_name cells (Declared n) = slice_get cells n
+cell_of_name cells (Local node births) = None
 
 abbrev pub store_line : CoreProgram → StoreMap → List ℕ
 store_line p v = join_with_byte 32 (cell_texts 0 (take p.declared p.cells) v)

@@ -5,8 +5,8 @@ use Rattle.token_system.specs.Stores.{StoreMap}
 use Rattle.agent_core.specs.Agents.{Constraint}
 use Rattle.agent_core.specs.Programs.{CoreProgram}
 use Rattle.agent_core.specs.Tellings.{tell_at, tell_all}
-use Rattle.trace_text.specs.Pieces.{Piece}
-use Rattle.trace_text.specs.Inputs.{Says, SayAll}
+use Rattle.trace_text.specs.Fields.{Field}
+use Rattle.trace_text.specs.Inputs.{Denotes, DenoteAll}
 
 -- the store after the token of a declared cell is told
 abbrev pub told_one : CoreProgram → ℕ × Token → StoreMap → StoreMap
@@ -15,11 +15,11 @@ told_one p pair u = tell_at (slice_get p.cells pair.0) p [] u pair.0 pair.1
 -- the bytes say some tokens, and these are told
 pub record TellsPiece (p : CoreProgram) (bytes : List ℕ) (old new : StoreMap) : Type 0 where
   pub tokens : Constraint
-  pub said : Says p bytes tokens
+  pub said : Denotes p bytes tokens
   pub told : new ≡ tell_all p [] tokens old
 
 -- each of the pieces says some tokens, and these are told in order
-pub record TellsPieces (p : CoreProgram) (all : List Piece) (old new : StoreMap) : Type 0 where
+pub record TellsPieces (p : CoreProgram) (all : List Field) (old new : StoreMap) : Type 0 where
   pub tokens : Constraint
-  pub said : SayAll p all tokens
+  pub said : DenoteAll p all tokens
   pub told : new ≡ tell_all p [] tokens old

@@ -1,6 +1,6 @@
 //! The numbers by which programs and traces are generated.
 ghost use Rattle.std.specs.Prelude.{◌≡◌, ◌<◌};
-ghost use Rattle.trace_text.specs.Draws.{after, drawn};
+ghost use Rattle.trace_text.specs.Draws.{draw_after, drawn};
 
 /// The factor between a number of the sequence and the next.
 const FACTOR: u64 = 1_103_515_245;
@@ -26,11 +26,11 @@ impl Draws {
     }
 
     /// Draws a number below the given one.
-    #[tactic(auto, unfolding(crate::specs::Draws::after, crate::specs::Draws::next))]
+    #[tactic(auto, unfolding(crate::specs::Draws::draw_after, crate::specs::Draws::next))]
     pub(crate) fn draw(&mut self, below: u32) -> u32
         requires { 0 < below }
         ensures drawn { result ≡ drawn self.old.last 0 below }
-        ensures after { self.new.last ≡ after self.old.last 1 }
+        ensures after { self.new.last ≡ draw_after self.old.last 1 }
     {
         let next = (u64::from(self.last) * FACTOR + SUMMAND) % MODULUS;
         self.last = next as u32;

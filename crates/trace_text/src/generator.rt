@@ -1,7 +1,7 @@
 //! Generating a program and a trace from a number.
 ghost use Rattle.std.specs.Prelude.{◌≡◌, ◌+◌, ◌++◌, ◌∷◌, [], codes, flat_map, IfOk, OnOk};
-ghost use Rattle.trace_text.specs.Draws.{after, drawn};
-ghost use Rattle.trace_text.specs.Generated.{bounds, joined, line_text, lines_after, numbers_text, program_text, rules, signals_text, trace_text};
+ghost use Rattle.trace_text.specs.Draws.{draw_after, drawn};
+ghost use Rattle.trace_text.specs.Generated.{bounds, joined_by, line_text, lines_after, numbers_text, program_text, rules, signals_text, trace_text};
 ghost use Rattle.trace_text.specs.Writing.{before, separated};
 
 use crate::draws::Draws;
@@ -51,8 +51,8 @@ fn write_numbers(into: &mut Vec<u8>) -> Result<(), Memory>
 
 /// Appends the rules.
 fn write_rules(draws: &mut Draws, into: &mut Vec<u8>) -> Result<(), Memory>
-    ensures text { OnOk result (into.new.items ≡ into.old.items ++ joined (codes " || ") (rules draws.old.last 31)) }
-    ensures draws { OnOk result (draws.new.last ≡ after draws.old.last 93) }
+    ensures text { OnOk result (into.new.items ≡ into.old.items ++ joined_by (codes " || ") (rules draws.old.last 31)) }
+    ensures draws { OnOk result (draws.new.last ≡ draw_after draws.old.last 93) }
 {
     for told in 1..SIGNALS {
         write_separator(told - 1, b" || ", into)?;
@@ -64,7 +64,7 @@ fn write_rules(draws: &mut Draws, into: &mut Vec<u8>) -> Result<(), Memory>
 /// Appends the bounds, each behind a separator.
 fn write_bounds(draws: &mut Draws, into: &mut Vec<u8>) -> Result<(), Memory>
     ensures text { OnOk result (into.new.items ≡ into.old.items ++ separated (codes " || ") (bounds draws.old.last 8)) }
-    ensures draws { OnOk result (draws.new.last ≡ after draws.old.last 16) }
+    ensures draws { OnOk result (draws.new.last ≡ draw_after draws.old.last 16) }
 {
     for number in 0..NUMBERS {
         into.extend_from_slice(b" || ")?;
@@ -76,7 +76,7 @@ fn write_bounds(draws: &mut Draws, into: &mut Vec<u8>) -> Result<(), Memory>
 /// Appends the program.
 fn write_program(draws: &mut Draws, into: &mut Vec<u8>) -> Result<(), Memory>
     ensures text { OnOk result (into.new.items ≡ into.old.items ++ program_text draws.old.last) }
-    ensures draws { OnOk result (draws.new.last ≡ after draws.old.last 109) }
+    ensures draws { OnOk result (draws.new.last ≡ draw_after draws.old.last 109) }
 {
     write_signals(into)?;
     write_numbers(into)?;
@@ -87,7 +87,7 @@ fn write_program(draws: &mut Draws, into: &mut Vec<u8>) -> Result<(), Memory>
 /// Appends a line of the trace, with its line feed.
 fn write_line(draws: &mut Draws, into: &mut Vec<u8>) -> Result<(), Memory>
     ensures text { OnOk result (into.new.items ≡ into.old.items ++ (line_text draws.old.last ++ codes "\n")) }
-    ensures draws { OnOk result (draws.new.last ≡ after draws.old.last (1 + drawn draws.old.last 0 4)) }
+    ensures draws { OnOk result (draws.new.last ≡ draw_after draws.old.last (1 + drawn draws.old.last 0 4)) }
 {
     let count = draws.draw(4);
     for place in 0..count {

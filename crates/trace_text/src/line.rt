@@ -1,13 +1,13 @@
 //! Reading a trace line.
 ghost use Rattle.std.specs.Prelude.{◌≡◌, ◌≤◌, length, IfErr, IfOk, OnOk};
 ghost use Rattle.std.specs.FinMap as map;
-ghost use Rattle.trace_text.specs.Pieces.{is_blank as is_blank_byte, pieces};
+ghost use Rattle.trace_text.specs.Fields.{is_blank as is_blank_byte, fields};
 ghost use Rattle.trace_text.specs.Inputs.{GivesInput};
-ghost use Rattle.trace_text.specs.Refusals.{RefusesLine, RefusesPieces};
+ghost use Rattle.trace_text.specs.Refusals.{RefusesLine, RefusesFields};
 ghost use Rattle.trace_text.specs.Tellings.{TellsPieces};
 
 use crate::fault::LineFault;
-use crate::piece::tell_piece;
+use crate::piece::tell_field;
 use agent_core::Program;
 use std::alloc::Global;
 use token_system::Store;
@@ -22,16 +22,16 @@ fn is_blank(byte: u8) -> bool
 }
 
 /// Tells the tokens of each piece of a line to a store of which nothing is told.
-fn tell_pieces(program: &Program, line: &[u8], store: &mut Store) -> Result<(), LineFault>
+fn tell_fields(program: &Program, line: &[u8], store: &mut Store) -> Result<(), LineFault>
     requires short { length line.now ≤ 32768 }
     requires nothing_told { store.old ≡ map.empty }
-    ensures told { OnOk result (TellsPieces program.now (pieces line.now) store.old store.new) }
-    ensures refused { IfErr result (RefusesPieces program.now (pieces line.now)) }
+    ensures told { OnOk result (TellsPieces program.now (fields line.now) store.old store.new) }
+    ensures refused { IfErr result (RefusesFields program.now (fields line.now)) }
 {
     let mut offset: u32 = 0;
     for part in line.split(|byte| is_blank(*byte)) {
         if !part.is_empty() {
-            tell_piece(program, part, offset, store)?;
+            tell_field(program, part, offset, store)?;
         }
         offset += part.len() as u32 + 1;
     }
@@ -49,6 +49,6 @@ pub fn read_input(alloc: Global, program: &Program, line: &[u8]) -> Result<Store
         return Err(LineFault::LineTooLong);
     }
     let mut input = Store::new(alloc);
-    tell_pieces(program, line, &mut input)?;
+    tell_fields(program, line, &mut input)?;
     Ok(input)
 }

@@ -1,8 +1,8 @@
 //! What a piece of a line says, and telling it.
 ghost use Rattle.std.specs.Prelude.{◌≡◌, ◌<◌, ◌^◌, IfErr, IfOk, IfSome, OnOk};
 ghost use Rattle.agent_core.specs.Stores.{IsStore};
-ghost use Rattle.trace_text.specs.Inputs.{cell_named as number_of, text_fits as text_fits_cell, tokens_of, Says};
-ghost use Rattle.trace_text.specs.Refusals.{RefusesPiece};
+ghost use Rattle.trace_text.specs.Inputs.{declared_cell as number_of, text_fits as text_fits_cell, tokens_of, Denotes};
+ghost use Rattle.trace_text.specs.Refusals.{RefusesField};
 ghost use Rattle.trace_text.specs.Tellings.{TellsPiece};
 
 use crate::fault::LineFault;
@@ -33,9 +33,9 @@ fn text_fits(cell: Cell, written: Written) -> bool
 }
 
 /// Reads a piece that stands at this offset: the number of its cell, and what is written of it.
-fn read_piece(program: &Program, piece: &[u8], offset: u32) -> Result<(u32, Written), LineFault>
-    ensures said { IfOk result (λ read. Says program.now piece.now (tokens_of read.0 read.1)) }
-    ensures refused { IfErr result (RefusesPiece program.now (record { offset = offset; bytes = piece.now })) }
+fn read_field(program: &Program, piece: &[u8], offset: u32) -> Result<(u32, Written), LineFault>
+    ensures said { IfOk result (λ read. Denotes program.now piece.now (tokens_of read.0 read.1)) }
+    ensures refused { IfErr result (RefusesField program.now (record { offset = offset; bytes = piece.now })) }
 {
     let Ok(written) = read_token(piece) else {
         return Err(LineFault::BadToken { offset });
@@ -51,7 +51,7 @@ fn read_piece(program: &Program, piece: &[u8], offset: u32) -> Result<(u32, Writ
 }
 
 /// Reads a piece that stands at this offset, and tells its tokens.
-pub fn tell_piece(
+pub fn tell_field(
     program: &Program,
     piece: &[u8],
     offset: u32,
@@ -59,9 +59,9 @@ pub fn tell_piece(
 ) -> Result<(), LineFault>
     requires store { IsStore program.now store.old }
     ensures told { OnOk result (TellsPiece program.now piece.now store.old store.new) }
-    ensures refused { IfErr result (RefusesPiece program.now (record { offset = offset; bytes = piece.now })) }
+    ensures refused { IfErr result (RefusesField program.now (record { offset = offset; bytes = piece.now })) }
 {
-    let (cell, written) = read_piece(program, piece, offset)?;
+    let (cell, written) = read_field(program, piece, offset)?;
     tell_written(program, cell, written, store)?;
     Ok(())
 }

@@ -1,7 +1,7 @@
 //! Writing the line of a store.
 ghost use Rattle.std.specs.Prelude.{◌≡◌, ◌++◌, ◌∷◌, [], option_copied, take, OnErr, OnOk};
 ghost use Rattle.token_system.specs.Texts.{text_of};
-ghost use Rattle.trace_text.specs.StoreLines.{bound_texts, cell_named, cell_texts, exact_text, store_line, text_if, value_texts};
+ghost use Rattle.trace_text.specs.StoreLines.{bound_texts, cell_of_name, cell_texts, exact_text, store_line, text_if, value_texts};
 ghost use Rattle.trace_text.specs.Writing.{spaced, Grows};
 
 use agent_core::{CellDecl, Program};
@@ -74,7 +74,7 @@ fn write_cell(decl: &CellDecl, value: Value, into: &mut Vec<u8>) -> Result<(), M
 
 /// The cell that has this name among the declared ones.
 fn declared_cell<'a>(declared: &'a [CellDecl], name: &CellName) -> Option<&'a CellDecl>
-    ensures { option_copied result ≡ cell_named declared.now name.now }
+    ensures { option_copied result ≡ cell_of_name declared.now name.now }
 {
     match name {
         CellName::Declared(number) => declared.get(*number as usize),

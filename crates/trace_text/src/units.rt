@@ -1,7 +1,7 @@
 //! Writing the units of generated programs.
 ghost use Rattle.std.specs.Prelude.{◌≡◌, ◌++◌, ◌<◌, decimal, OnOk};
-ghost use Rattle.trace_text.specs.Draws.{after};
-ghost use Rattle.trace_text.specs.Generated.{bound_text, form_of, form_text, rule_text, signal_name};
+ghost use Rattle.trace_text.specs.Draws.{draw_after};
+ghost use Rattle.trace_text.specs.Generated.{bound_text, drawn_form, form_text, rule_text, signal_name};
 
 use crate::draws::Draws;
 use itoa::Buffer;
@@ -30,7 +30,7 @@ enum Form {
 
 /// The form with this number.
 fn numbered_form(number: u32) -> Form
-    ensures { result ≡ form_of number }
+    ensures { result ≡ drawn_form number }
 {
     match number {
         0 => Form::Then,
@@ -100,7 +100,7 @@ fn write_form(
 pub(crate) fn write_rule(draws: &mut Draws, told: u32, into: &mut Vec<u8>) -> Result<(), Memory>
     requires { 0 < told }
     ensures text { OnOk result (into.new.items ≡ into.old.items ++ rule_text draws.old.last told) }
-    ensures draws { OnOk result (draws.new.last ≡ after draws.old.last 3) }
+    ensures draws { OnOk result (draws.new.last ≡ draw_after draws.old.last 3) }
 {
     let guard = draws.draw(told);
     let form = numbered_form(draws.draw(5));
@@ -111,7 +111,7 @@ pub(crate) fn write_rule(draws: &mut Draws, told: u32, into: &mut Vec<u8>) -> Re
 /// Appends the bound of this number, by two draws.
 pub(crate) fn write_bound(draws: &mut Draws, number: u32, into: &mut Vec<u8>) -> Result<(), Memory>
     ensures text { OnOk result (into.new.items ≡ into.old.items ++ bound_text draws.old.last number) }
-    ensures draws { OnOk result (draws.new.last ≡ after draws.old.last 2) }
+    ensures draws { OnOk result (draws.new.last ≡ draw_after draws.old.last 2) }
 {
     let guard = draws.draw(SIGNALS);
     let bound = draws.draw(100);

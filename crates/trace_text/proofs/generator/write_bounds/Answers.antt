@@ -1,13 +1,13 @@
 use Rattle.std.proofs.Common.{◌+◌, ◌*◌, refl, sym, arith}
 use Rattle.std.specs.Prelude.{codes}
 use Rattle.std.proofs.lemmas.List.{append-nil}
-use Rattle.trace_text.specs.Draws.{after}
+use Rattle.trace_text.specs.Draws.{draw_after}
 use Rattle.trace_text.specs.Generated.{bounds}
 use Rattle.trace_text.proofs.DrawnTexts.{after_more, bound_written}
 use Rattle.trace_text.proofs.generator.write_bounds.Goals as goal
 
 pub loop-number-init : goal.loop-number-init
-unfolding bounds after
+unfolding bounds draw_after
 loop-number-init c = record { text = sym (append-nil c.args.into.now.items); draws = refl }
 
 pub loop-number-preserved : goal.loop-number-preserved

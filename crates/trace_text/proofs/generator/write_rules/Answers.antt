@@ -1,13 +1,13 @@
 use Rattle.std.proofs.Common.{◌+◌, ◌-◌, ◌*◌, refl, sym, arith}
 use Rattle.std.specs.Prelude.{codes}
 use Rattle.std.proofs.lemmas.List.{append-nil}
-use Rattle.trace_text.specs.Draws.{after}
+use Rattle.trace_text.specs.Draws.{draw_after}
 use Rattle.trace_text.specs.Generated.{rules}
 use Rattle.trace_text.proofs.DrawnTexts.{after_more, rule_written}
 use Rattle.trace_text.proofs.generator.write_rules.Goals as goal
 
 pub loop-told-init : goal.loop-told-init
-unfolding rules after
+unfolding rules draw_after
 loop-told-init c = record { text = sym (append-nil c.args.into.now.items); draws = refl }
 
 pub loop-told-preserved : goal.loop-told-preserved

@@ -2,7 +2,7 @@ use Rattle.std.proofs.Common.{refl, sym, ap, ◌∙◌}
 use Rattle.agent_core.specs.declared.node.CellDecl.{CellDecl}
 use Rattle.trace_text.specs.Inputs.{name_in, text_fits}
 use Rattle.trace_text.proofs.DeclaredTokens.{cell_read}
-use Rattle.trace_text.proofs.piece.read_piece.Goals as goal
+use Rattle.trace_text.proofs.piece.read_field.Goals as goal
 
 pub returns-in_default-clause-refused : goal.returns-in_default-clause-refused
 returns-in_default-clause-refused c = (refl, λ w text. c.in_default.ensures.bad refl w text)

@@ -21,8 +21,8 @@ use Rattle.agent_core.specs.Agents.{Constraint}
 use Rattle.agent_core.specs.Programs.{CoreProgram}
 use Rattle.agent_core.specs.Strata.{Each}
 use Rattle.agent_core.proofs.Bools.{both, second_of_both}
-use Rattle.trace_text.specs.Pieces.{Piece, is_some, placed, pieces}
-use Rattle.trace_text.specs.Inputs.{cell_named, name_in, ask_of, fits_if_some, Says, SayAll}
+use Rattle.trace_text.specs.Fields.{Field, is_some, placed_fields, fields}
+use Rattle.trace_text.specs.Inputs.{declared_cell, name_in, tokens_if, fits_if_some, Denotes, DenoteAll}
 use Rattle.trace_text.specs.StoreLines.{exact_text, text_if, told_texts, value_texts}
 use Rattle.trace_text.specs.Writing.{spaced}
 use Rattle.trace_text.proofs.TokenTexts.{HasNoBlank, text_facts, split_join}
@@ -31,7 +31,7 @@ use Rattle.trace_text.proofs.ValueTokens.{IsHeld, told_held, told_tokens, token_
 -- each of the texts says some tokens, and together they say these
 abbrev pub SayTexts : CoreProgram → List (List ℕ) → Constraint → Type 0
 SayTexts p [] tokens = tokens ≡ []
-SayTexts p (text ∷ later) tokens = (first rest : Constraint) × Says p text first × SayTexts p later rest × (tokens ≡ first ++ rest)
+SayTexts p (text ∷ later) tokens = (first rest : Constraint) × Denotes p text first × SayTexts p later rest × (tokens ≡ first ++ rest)
 
 pub SayTexts-append : (p : CoreProgram) (xs ys : List (List ℕ)) (s t : Constraint) → SayTexts p xs s → SayTexts p ys t → SayTexts p (xs ++ ys) (s ++ t)
 SayTexts-append p [] ys s t a b = subst (λ (z : Constraint). SayTexts p ys (z ++ t)) (sym a) b
@@ -42,19 +42,19 @@ no_blanks : (p : CoreProgram) (texts : List (List ℕ)) (tokens : Constraint) �
 no_blanks p [] tokens h = tt
 no_blanks p (text ∷ texts) tokens (first, rest, here, later, e) = ((text_facts text here.written here.names.text).no_blank, no_blanks p texts rest later)
 
-placed_say : (p : CoreProgram) (offset : ℕ) (texts : List (List ℕ)) (tokens : Constraint) → SayTexts p texts tokens → SayAll p (filter (λ (piece : Piece). is_some piece.bytes) (placed offset texts)) tokens
+placed_say : (p : CoreProgram) (offset : ℕ) (texts : List (List ℕ)) (tokens : Constraint) → SayTexts p texts tokens → DenoteAll p (filter (λ (piece : Field). is_some piece.bytes) (placed_fields offset texts)) tokens
 placed_say p offset [] tokens h = h
 placed_say p offset (text ∷ texts) tokens (first, rest, here, later, e) =
-    let later_pieces : List Piece = filter (λ (piece : Piece). is_some piece.bytes) (placed (offset + (length text + 1)) texts) in
-    subst (λ (b : Bool). SayAll p (cond b (record { offset = offset; bytes = text } ∷ later_pieces) later_pieces) tokens) (sym (text_facts text here.written here.names.text).some)
+    let later_pieces : List Field = filter (λ (piece : Field). is_some piece.bytes) (placed_fields (offset + (length text + 1)) texts) in
+    subst (λ (b : Bool). DenoteAll p (cond b (record { offset = offset; bytes = text } ∷ later_pieces) later_pieces) tokens) (sym (text_facts text here.written here.names.text).some)
     (first, rest, here, placed_say p (offset + (length text + 1)) texts rest later, e)
 
--- so do the pieces of their line
-pub line_says : (p : CoreProgram) (texts : List (List ℕ)) (tokens : Constraint) → SayTexts p texts tokens → SayAll p (pieces (join_with_byte 32 texts)) tokens
+-- so do the fields of their line
+pub line_says : (p : CoreProgram) (texts : List (List ℕ)) (tokens : Constraint) → SayTexts p texts tokens → DenoteAll p (fields (join_with_byte 32 texts)) tokens
 line_says p [] tokens h = h
 line_says p (text ∷ texts) tokens h =
     let calm = no_blanks p (text ∷ texts) tokens h in
-    subst (λ (parts : List (List ℕ)). SayAll p (filter (λ (piece : Piece). is_some piece.bytes) (placed 0 parts)) tokens) (sym (split_join text texts calm.0 calm.1)) (placed_say p 0 (text ∷ texts) tokens h)
+    subst (λ (parts : List (List ℕ)). DenoteAll p (filter (λ (piece : Field). is_some piece.bytes) (placed_fields 0 parts)) tokens) (sym (split_join text texts calm.0 calm.1)) (placed_say p 0 (text ∷ texts) tokens h)
 
 -- with a space behind each they take 45 bytes for each text at most
 pub texts_short : (p : CoreProgram) (texts : List (List ℕ)) (tokens : Constraint) → SayTexts p texts tokens → length (spaced texts) ≤ 45 * length texts
@@ -87,19 +87,19 @@ name_in-text name Clash = whole_name name (length name + 1 - 1) (omega arith)
 name_in-text name (AtLeast k) = ap (take (length name - 0)) (append_assoc name (codes ">=") (signed_decimal k)) ∙ cut_name name (codes ">=" ++ signed_decimal k) (length name - 0) (omega arith)
 name_in-text name (AtMost k) = ap (take (length name - 0)) (append_assoc name (codes "<=") (signed_decimal k)) ∙ cut_name name (codes "<=" ++ signed_decimal k) (length name - 0) (omega arith)
 
-module _ (p : CoreProgram) (n : ℕ) (d : CellDecl) (found : slice_get p.cells n ≡ Some d) (named : cell_named p d.name ≡ Some n) (own : IsTrue (is_name d.name)) where
+module _ (p : CoreProgram) (n : ℕ) (d : CellDecl) (found : slice_get p.cells n ≡ Some d) (named : declared_cell p d.name ≡ Some n) (own : IsTrue (is_name d.name)) where
   -- a text that means one token of this cell
-  say_written : (bytes : List ℕ) (w : Written) (t : Token) → w.first ≡ t → w.second ≡ None → IsTokenText bytes w → name_in bytes w ≡ d.name → Fits d.cell t → Says p bytes ((n, t) ∷ [])
+  say_written : (bytes : List ℕ) (w : Written) (t : Token) → w.first ≡ t → w.second ≡ None → IsTokenText bytes w → name_in bytes w ≡ d.name → Fits d.cell t → Denotes p bytes ((n, t) ∷ [])
   say_written bytes w t first second text name fits = record {
     written = w;
     cell = n;
     decl = d;
-    names = record { text = text; named = ap (cell_named p) name ∙ named; found = found };
+    names = record { text = text; named = ap (declared_cell p) name ∙ named; found = found };
     fits = ap (λ (x : Token). token_fits d.cell x && fits_if_some d.cell w.second) first ∙ ap (λ (o : Option Token). token_fits d.cell t && fits_if_some d.cell o) second ∙ both (token_fits d.cell t) true fits refl;
-    meant = sym (ap (λ (x : Token). (n, x) ∷ ask_of n w.second) first ∙ ap (λ (o : Option Token). (n, t) ∷ ask_of n o) second);
+    meant = sym (ap (λ (x : Token). (n, x) ∷ tokens_if n w.second) first ∙ ap (λ (o : Option Token). (n, t) ∷ tokens_if n o) second);
   }
 
-  say_token : (t : Token) → Fits d.cell t → Says p (text_of d.name t) ((n, t) ∷ [])
+  say_token : (t : Token) → Fits d.cell t → Denotes p (text_of d.name t) ((n, t) ∷ [])
   say_token On fits = say_written (text_of d.name On) (written_of d.name On) On refl refl (fitting_reads_back d.cell d.name On fits own) (name_in-text d.name On) fits
   say_token Off fits = say_written (text_of d.name Off) (written_of d.name Off) Off refl refl (fitting_reads_back d.cell d.name Off fits own) (name_in-text d.name Off) fits
   say_token Clash fits = say_written (text_of d.name Clash) (written_of d.name Clash) Clash refl refl (fitting_reads_back d.cell d.name Clash fits own) (name_in-text d.name Clash) fits
@@ -107,7 +107,7 @@ module _ (p : CoreProgram) (n : ℕ) (d : CellDecl) (found : slice_get p.cells n
   say_token (AtMost k) fits = say_written (text_of d.name (AtMost k)) (written_of d.name (AtMost k)) (AtMost k) refl refl (fitting_reads_back d.cell d.name (AtMost k) fits own) (name_in-text d.name (AtMost k)) fits
 
   -- both bounds at once
-  say_exact : (k : ℤ) → Fits d.cell (AtLeast k) → Fits d.cell (AtMost k) → Says p (exact_text d.name k) ((n, AtLeast k) ∷ (n, AtMost k) ∷ [])
+  say_exact : (k : ℤ) → Fits d.cell (AtLeast k) → Fits d.cell (AtMost k) → Denotes p (exact_text d.name k) ((n, AtLeast k) ∷ (n, AtMost k) ∷ [])
   say_exact k low high = record {
     written = record { name_start = 0; name_end = length d.name; first = AtLeast k; second = Some (AtMost k) };
     cell = n;
@@ -122,14 +122,14 @@ module _ (p : CoreProgram) (n : ℕ) (d : CellDecl) (found : slice_get p.cells n
         start = refl;
         ends = refl;
       });
-      named = ap (cell_named p) (ap (take (length d.name - 0)) (append_assoc d.name (codes "=") (signed_decimal k)) ∙ cut_name d.name (codes "=" ++ signed_decimal k) (length d.name - 0) (omega arith)) ∙ named;
+      named = ap (declared_cell p) (ap (take (length d.name - 0)) (append_assoc d.name (codes "=") (signed_decimal k)) ∙ cut_name d.name (codes "=" ++ signed_decimal k) (length d.name - 0) (omega arith)) ∙ named;
       found = found;
     };
     fits = both (token_fits d.cell (AtLeast k)) (token_fits d.cell (AtMost k)) low high;
     meant = refl;
   }
 
-  one_text : (text : List ℕ) (tokens : Constraint) → Says p text tokens → SayTexts p (text ∷ []) tokens
+  one_text : (text : List ℕ) (tokens : Constraint) → Denotes p text tokens → SayTexts p (text ∷ []) tokens
   one_text text tokens h = (tokens, [], h, refl, sym (append-nil tokens))
 
   say_if : (v : Value) (b : Bool) (t : Token) → Each (IsHeld d.cell.kind v) (token_if b t) → SayTexts p (text_if b (text_of d.name t)) (cell_ask n (token_if b t))
