@@ -15,7 +15,7 @@ use Rattle.expansion_laws.specs.Numbering.{agent_of}
 use Rattle.expansion_laws.specs.Expansions.{IsSketchOf, IsExpansion}
 use Rattle.expansion_laws.proofs.OneTree.{one_tree}
 use Rattle.expansion_laws.proofs.WholePrograms.{nodes_many, cells_many, expansion_program}
-use Rattle.generated_laws.specs.GeneratedParts.{Part, parts}
+use Rattle.generated_laws.specs.GeneratedUnits.{GeneratedUnit, generated_units}
 use Rattle.generated_laws.specs.GeneratedSurfaces.{cells, tree, surface}
 use Rattle.generated_laws.specs.GeneratedTables.{part_levels, declared_levels, table, IsSmall}
 use Rattle.generated_laws.proofs.Parts.{parts_are}
@@ -35,32 +35,32 @@ levels_declared : length declared_levels ≡ 40
 unfolding declared_levels
 levels_declared = refl
 
--- its sketch is that of its parts
-pub one_sketch : (n : ℕ) (d : Sketch) → IsSketchOf (surface n) d → d ≡ parts_sketch 0 (parts n)
+-- its sketch is that of its generated_units
+pub one_sketch : (n : ℕ) (d : Sketch) → IsSketchOf (surface n) d → d ≡ parts_sketch 0 (generated_units n)
 one_sketch n d is =
     let same : is.tree ≡ tree n = one_tree is.tree (tree n) (sym is.written) in
     is.sketched ∙ ap (λ (k : ℕ). sketch_of k 0 is.tree) cells_many_declared ∙ ap (sketch_of 40 0) same
 
-some_small : (us : List Part) → length us ≡ 39 → size (parts_sketch 0 us) < 900
+some_small : (us : List GeneratedUnit) → length us ≡ 39 → size (parts_sketch 0 us) < 900
 some_small [] many = absurd (omega arith)
 some_small (u ∷ us) many = let small = parts_small u us 0 in omega arith
 
 -- the table meets the edges of the agent
-agent_met : (n : ℕ) → Each (Meets (table n)) (agent_edges 0 (agent_of [] 40 (parts_sketch 0 (parts n))) [])
+agent_met : (n : ℕ) → Each (Meets (table n)) (agent_edges 0 (agent_of [] 40 (parts_sketch 0 (generated_units n))) [])
 agent_met n =
-    let hidden : List ℕ = flat_map part_levels (parts n) in
-    parts_met (table n) (signal_level hidden) (number_level hidden) (parts n) (parts_are n) declared_levels refl 0 40 0 (sym levels_declared)
+    let hidden : List ℕ = flat_map part_levels (generated_units n) in
+    parts_met (table n) (signal_level hidden) (number_level hidden) (generated_units n) (parts_are n) declared_levels refl 0 40 0 (sym levels_declared)
 
 -- The core program of the surface is small, and has the table.
 pub small : (n : ℕ) (p : CoreProgram) → IsExpansion (surface n) p → IsSmall p (table n)
 small n p (d, sketched, made) =
-    let same : d ≡ parts_sketch 0 (parts n) = one_sketch n d sketched in
-    let nodes : length p.nodes ≡ size (parts_sketch 0 (parts n)) = nodes_many (surface n) d p made ∙ ap size same in
-    let hidden : List ℕ = flat_map part_levels (parts n) in
-    let marked : length (marks d) ≡ length hidden = ap (λ (x : Sketch). length (marks x)) same ∙ parts_levels_many (parts n) 0 in
+    let same : d ≡ parts_sketch 0 (generated_units n) = one_sketch n d sketched in
+    let nodes : length p.nodes ≡ size (parts_sketch 0 (generated_units n)) = nodes_many (surface n) d p made ∙ ap size same in
+    let hidden : List ℕ = flat_map part_levels (generated_units n) in
+    let marked : length (marks d) ≡ length hidden = ap (λ (x : Sketch). length (marks x)) same ∙ parts_levels_many (generated_units n) 0 in
     let cells : length p.cells ≡ 40 + length (marks d) = cells_many (surface n) d p (formed n) made in
-    let below = some_small (parts n) (parts_many n) in
-    let few = levels_few (parts n) in
+    let below = some_small (generated_units n) (parts_many n) in
+    let few = levels_few (generated_units n) in
     let many = parts_many n in
     let root : agent_at p.nodes 0 ≡ agent_of [] 40 d = root_tree p.nodes (agent_of [] 40 d, made.nodes) in
     record {

@@ -9,7 +9,7 @@ use Rattle.tdcc_reader.specs.Limits.{first}
 use Rattle.tdcc_reader.specs.Scope.{Known, kind_in_scope, unknown_fault, signal_fault, number_fault, signal_use, number_use, unit_fault, agent_fault, names_known, items_known, names_fault, items_fault, program_fault}
 use Rattle.trace_text.specs.Generated.{signal_name, number_name}
 use Rattle.core_text_laws.proofs.CoreLimits.{none_both}
-use Rattle.generated_laws.specs.GeneratedParts.{Part, Follows, Defaults, Delays, Starts, Ends, Bounds}
+use Rattle.generated_laws.specs.GeneratedUnits.{GeneratedUnit, Follows, Defaults, Delays, Starts, Ends, Bounds}
 use Rattle.generated_laws.proofs.Parts.{IsPart}
 use Rattle.generated_laws.proofs.Rows.{row_passes}
 use Rattle.generated_laws.proofs.PartPhrases.{part_phrase, agent_phrase, signals, numbers, program_phrase}
@@ -57,7 +57,7 @@ number_clean i at few = ap (λ (o : Option Kind). first (unknown_fault o at) (nu
 two_clean : (i j a b : ℕ) → i < 32 → j < 32 → first (signal_use scope (signal_name i) a) (signal_use scope (signal_name j) b) ≡ None
 two_clean i j a b fi fj = none_both (signal_use scope (signal_name i) a) (signal_use scope (signal_name j) b) (signal_clean i a fi) (signal_clean j b fj)
 
-part_clean : (u : Part) → IsPart u → (at : ℕ) → unit_fault (part_phrase u) scope at ≡ None
+part_clean : (u : GeneratedUnit) → IsPart u → (at : ℕ) → unit_fault (part_phrase u) scope at ≡ None
 part_clean (Follows i j) (few, less) at = two_clean i j _ _ (omega arith) few
 part_clean (Defaults i j) (few, less) at = two_clean i j _ _ (omega arith) few
 part_clean (Delays i j) (few, less) at = two_clean i j _ _ (omega arith) few
@@ -65,7 +65,7 @@ part_clean (Starts i j) (few, less) at = two_clean i j _ _ (omega arith) few
 part_clean (Ends i j h) (few, less, stop) at = none_both (first (signal_use scope (signal_name i) _) (signal_use scope (signal_name j) _)) (signal_use scope (signal_name h) _) (two_clean i j _ _ (omega arith) few) (signal_clean h _ (omega arith))
 part_clean (Bounds i n k) (fi, fn, fk) at = none_both (signal_use scope (signal_name i) _) (number_use scope (number_name n) _) (signal_clean i _ fi) (number_clean n _ fn)
 
-agent_clean : (us : List Part) → Each IsPart us → (at : ℕ) → agent_fault (agent_phrase us) scope at ≡ None
+agent_clean : (us : List GeneratedUnit) → Each IsPart us → (at : ℕ) → agent_fault (agent_phrase us) scope at ≡ None
 agent_clean [] all at = refl
 agent_clean (u ∷ []) all at = part_clean u all.0 at
 agent_clean (u ∷ v ∷ vs) all at =
@@ -83,7 +83,7 @@ unfolding digits
 numbers_clean at = refl
 
 -- No name of the program has a fault.
-pub program_clean : (us : List Part) → Each IsPart us → program_fault (program_phrase us) ≡ None
+pub program_clean : (us : List GeneratedUnit) → Each IsPart us → program_fault (program_phrase us) ≡ None
 program_clean us all =
     let agent : ℕ = 1 + names_width signals + 1 in
     none_both _ _ (signals_clean 1) (none_both _ _ (numbers_clean agent) (agent_clean us all (agent + items_width numbers)))

@@ -8,12 +8,12 @@ use Rattle.tdcc_reader.specs.Widths.{unit_width}
 use Rattle.tdcc_reader.specs.Surfaces.{Declared, unit_cells, agent_cells}
 use Rattle.trace_text.specs.Generated.{signal_name, number_name}
 use Rattle.core_text_laws.proofs.CoreLimits.{none_both}
-use Rattle.generated_laws.specs.GeneratedParts.{Part, Follows, Defaults, Delays, Starts, Ends, Bounds}
+use Rattle.generated_laws.specs.GeneratedUnits.{GeneratedUnit, Follows, Defaults, Delays, Starts, Ends, Bounds}
 
 abbrev pub is_on : ℕ → g.ConstraintPhrase
 is_on j = g.One (g.On (signal_name j))
 
-abbrev pub part_phrase : Part → g.UnitPhrase
+abbrev pub part_phrase : GeneratedUnit → g.UnitPhrase
 part_phrase (Follows i j) = g.Always (g.IfThen (is_on i) (g.Tell (is_on j)))
 part_phrase (Defaults i j) = g.Always (g.IfElse (is_on i) (g.Tell (is_on j)))
 part_phrase (Delays i j) = g.Always (g.IfThen (is_on i) (g.Next (g.Tell (is_on j))))
@@ -21,7 +21,7 @@ part_phrase (Starts i j) = g.When (is_on i) (g.Always (g.Tell (is_on j)))
 part_phrase (Ends i j h) = g.Watching (g.Only (g.Always (g.IfElse (is_on i) (g.Tell (is_on j))))) (is_on h)
 part_phrase (Bounds i n k) = g.Always (g.IfThen (is_on i) (g.Tell (g.One (g.AtLeast (number_name n) (pos k)))))
 
-abbrev pub agent_phrase : List Part → g.AgentPhrase
+abbrev pub agent_phrase : List GeneratedUnit → g.AgentPhrase
 agent_phrase [] = g.Only g.Skip
 agent_phrase (u ∷ []) = g.Only (part_phrase u)
 agent_phrase (u ∷ v ∷ vs) = g.Par (part_phrase u) (agent_phrase (v ∷ vs))
@@ -42,12 +42,12 @@ signals = signals_phrase 0 (range_with_len 1 31)
 abbrev pub numbers : g.ItemsPhrase
 numbers = numbers_phrase 0 (range_with_len 1 7)
 
-abbrev pub program_phrase : List Part → g.ProgramPhrase
+abbrev pub program_phrase : List GeneratedUnit → g.ProgramPhrase
 program_phrase us = g.Signals signals (g.Ints numbers (g.Runs (agent_phrase us)))
 
 -- LIMITS
 
-part_within : (u : Part) (at : ℕ) → unit_limit Program (part_phrase u) 0 at ≡ None
+part_within : (u : GeneratedUnit) (at : ℕ) → unit_limit Program (part_phrase u) 0 at ≡ None
 part_within (Follows i j) at = refl
 part_within (Defaults i j) at = refl
 part_within (Delays i j) at = refl
@@ -55,19 +55,19 @@ part_within (Starts i j) at = refl
 part_within (Ends i j h) at = refl
 part_within (Bounds i n k) at = refl
 
-agent_within : (us : List Part) (at : ℕ) → agent_limit Program (agent_phrase us) 0 at ≡ None
+agent_within : (us : List GeneratedUnit) (at : ℕ) → agent_limit Program (agent_phrase us) 0 at ≡ None
 agent_within [] at = refl
 agent_within (u ∷ []) at = part_within u at
 agent_within (u ∷ v ∷ vs) at =
     let next : ℕ = at + unit_width (part_phrase u) + 1 in
     none_both (unit_limit Program (part_phrase u) 0 at) (agent_limit Program (agent_phrase (v ∷ vs)) 0 next) (part_within u at) (agent_within (v ∷ vs) next)
 
-pub program_within : (us : List Part) → program_limit Program (program_phrase us) ≡ None
+pub program_within : (us : List GeneratedUnit) → program_limit Program (program_phrase us) ≡ None
 program_within us = agent_within us _
 
 -- LOCAL CELLS
 
-part_bare : (u : Part) → unit_cells (part_phrase u) ≡ []
+part_bare : (u : GeneratedUnit) → unit_cells (part_phrase u) ≡ []
 part_bare (Follows i j) = refl
 part_bare (Defaults i j) = refl
 part_bare (Delays i j) = refl
@@ -76,7 +76,7 @@ part_bare (Ends i j h) = refl
 part_bare (Bounds i n k) = refl
 
 -- The parts have no local cells.
-pub agent_bare : (us : List Part) → agent_cells (agent_phrase us) ≡ []
+pub agent_bare : (us : List GeneratedUnit) → agent_cells (agent_phrase us) ≡ []
 agent_bare [] = refl
 agent_bare (u ∷ []) = part_bare u
 agent_bare (u ∷ v ∷ vs) = ap (λ (cs : List Declared). cs ++ agent_cells (agent_phrase (v ∷ vs))) (part_bare u) ∙ agent_bare (v ∷ vs)

@@ -4,20 +4,20 @@ use Rattle.std.specs.Prelude.{map, flat_map}
 use Rattle.tdcc_reader.specs.Trees as tree
 use Rattle.expansion_laws.specs.Sketches.{Sketch, size, marks}
 use Rattle.expansion_laws.specs.Expanding.{sketch_of}
-use Rattle.generated_laws.specs.GeneratedParts.{Part, Follows, Defaults, Delays, Starts, Ends, Bounds}
+use Rattle.generated_laws.specs.GeneratedUnits.{GeneratedUnit, Follows, Defaults, Delays, Starts, Ends, Bounds}
 use Rattle.generated_laws.specs.GeneratedSurfaces.{part_tree, par_of}
 use Rattle.generated_laws.specs.GeneratedTables.{part_levels}
 
 -- the sketch of a part whose root has number m, and of parts
-abbrev pub part_sketch : ℕ → Part → Sketch
+abbrev pub part_sketch : ℕ → GeneratedUnit → Sketch
 part_sketch m u = sketch_of 40 m (part_tree u)
 
-abbrev pub parts_sketch : ℕ → List Part → Sketch
+abbrev pub parts_sketch : ℕ → List GeneratedUnit → Sketch
 parts_sketch m us = sketch_of 40 m (par_of (map part_tree us))
 
 -- NODES
 
-part_small : (u : Part) (m : ℕ) → size (part_sketch m u) ≤ 22
+part_small : (u : GeneratedUnit) (m : ℕ) → size (part_sketch m u) ≤ 22
 part_small (Follows i j) m = omega arith
 part_small (Defaults i j) m = omega arith
 part_small (Delays i j) m = omega arith
@@ -25,7 +25,7 @@ part_small (Starts i j) m = omega arith
 part_small (Ends i j h) m = omega arith
 part_small (Bounds i n k) m = omega arith
 
-pub parts_small : (u : Part) (us : List Part) (m : ℕ) → size (parts_sketch m (u ∷ us)) ≤ 22 + 23 * length us
+pub parts_small : (u : GeneratedUnit) (us : List GeneratedUnit) (m : ℕ) → size (parts_sketch m (u ∷ us)) ≤ 22 + 23 * length us
 parts_small u [] m = part_small u m
 parts_small u (v ∷ vs) m =
     let left = part_small u (suc m) in
@@ -34,7 +34,7 @@ parts_small u (v ∷ vs) m =
 
 -- HIDDEN CELLS
 
-pub part_levels_many : (u : Part) (m : ℕ) → length (marks (part_sketch m u)) ≡ length (part_levels u)
+pub part_levels_many : (u : GeneratedUnit) (m : ℕ) → length (marks (part_sketch m u)) ≡ length (part_levels u)
 part_levels_many (Follows i j) m = refl
 part_levels_many (Defaults i j) m = refl
 part_levels_many (Delays i j) m = refl
@@ -42,7 +42,7 @@ part_levels_many (Starts i j) m = refl
 part_levels_many (Ends i j h) m = refl
 part_levels_many (Bounds i n k) m = refl
 
-pub parts_levels_many : (us : List Part) (m : ℕ) → length (marks (parts_sketch m us)) ≡ length (flat_map part_levels us)
+pub parts_levels_many : (us : List GeneratedUnit) (m : ℕ) → length (marks (parts_sketch m us)) ≡ length (flat_map part_levels us)
 parts_levels_many [] m = refl
 parts_levels_many (u ∷ []) m = part_levels_many u m ∙ more (part_levels u)
   where
@@ -54,7 +54,7 @@ parts_levels_many (u ∷ v ∷ vs) m =
     let right = parts_levels_many (v ∷ vs) next in
     omega (arith, length-append (marks (part_sketch (suc m) u)) (marks (parts_sketch next (v ∷ vs))), length-append (part_levels u) (flat_map part_levels (v ∷ vs)))
 
-part_levels_few : (u : Part) → length (part_levels u) ≤ 1
+part_levels_few : (u : GeneratedUnit) → length (part_levels u) ≤ 1
 part_levels_few (Follows i j) = omega arith
 part_levels_few (Defaults i j) = omega arith
 part_levels_few (Delays i j) = omega arith
@@ -62,7 +62,7 @@ part_levels_few (Starts i j) = omega arith
 part_levels_few (Ends i j h) = omega arith
 part_levels_few (Bounds i n k) = omega arith
 
-pub levels_few : (us : List Part) → length (flat_map part_levels us) ≤ length us
+pub levels_few : (us : List GeneratedUnit) → length (flat_map part_levels us) ≤ length us
 levels_few [] = omega arith
 levels_few (u ∷ us) =
     let first = part_levels_few u in

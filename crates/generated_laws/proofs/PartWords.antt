@@ -20,7 +20,7 @@ use Rattle.trace_text.specs.Writing.{separated}
 use Rattle.core_text_laws.proofs.Written.{append_three, IsWritten, none_written, more_written, same_written}
 use Rattle.core_text_laws.proofs.CoreWords.{name_written, number_written, greater_cut}
 use Rattle.core_text_laws.proofs.CoreAgents.{four, range_cut}
-use Rattle.generated_laws.specs.GeneratedParts.{Part, Follows, Defaults, Delays, Starts, Ends, Bounds}
+use Rattle.generated_laws.specs.GeneratedUnits.{GeneratedUnit, Follows, Defaults, Delays, Starts, Ends, Bounds}
 use Rattle.generated_laws.proofs.Rows.{row_passes}
 use Rattle.generated_laws.proofs.Parts.{IsPart, part_text}
 use Rattle.generated_laws.proofs.PartPhrases.{part_phrase, agent_phrase, signals_phrase, numbers_phrase, numbers, program_phrase}
@@ -77,7 +77,7 @@ six a b c d e f rest = append_assoc ((((a ++ b) ++ c) ++ d) ++ e) f rest ∙ app
 small_bound : (k : ℕ) → k < 100 → is_bound (pos k) ≡ true
 small_bound k few = grind arith
 
-part_says : (u : Part) → IsPart u → (space text : List ℕ) (terms : List Term) → IsEnd space text → Says text terms → Says (part_text u ++ (space ++ text)) (unit (part_phrase u) terms)
+part_says : (u : GeneratedUnit) → IsPart u → (space text : List ℕ) (terms : List Term) → IsEnd space text → Says text terms → Says (part_text u ++ (space ++ text)) (unit (part_phrase u) terms)
 part_says (Follows i j) (few, less) space text terms end w =
     same_written (four (codes "always if ") (signal_name i) (codes " then ") (signal_name j) (space ++ text))
     (more_written (codes "always") kind.Keyword (32 ∷ []) Always refl refl refl refl refl
@@ -128,7 +128,7 @@ part_says (Bounds i n k) (fi, fn, fk) space text terms end w =
     (number_written (pos k) space (small_bound k fk) end.white end.no_digit w)))))))
 
 -- one part and then some more, with such bytes behind the last
-pub parts_say : (u : Part) (us : List Part) (space : List ℕ) → IsPart u → Each IsPart us → IsEnd space [] → Says (part_text u ++ (separated (codes " || ") (map part_text us) ++ space)) (agent (agent_phrase (u ∷ us)) [])
+pub parts_say : (u : GeneratedUnit) (us : List GeneratedUnit) (space : List ℕ) → IsPart u → Each IsPart us → IsEnd space [] → Says (part_text u ++ (separated (codes " || ") (map part_text us) ++ space)) (agent (agent_phrase (u ∷ us)) [])
 parts_say u [] space is all end = same_written (ap (λ (t : List ℕ). part_text u ++ t) (sym (append-nil space))) (part_says u is space [] [] end none_written)
 parts_say u (v ∷ vs) space is all end =
     same_written (ap (λ (t : List ℕ). part_text u ++ (32 ∷ 124 ∷ 124 ∷ 32 ∷ t)) (append_assoc (part_text v) (separated (codes " || ") (map part_text vs)) space))
@@ -180,7 +180,7 @@ first_row : (a b rest : List ℕ) (close : List ℕ) (first : List ℕ) → (fir
 first_row a b rest close first = append_three first (a ++ b) close rest ∙ ap (λ (t : List ℕ). first ++ t) (append_assoc a b (close ++ rest))
 
 -- The declarations, and a text of some parts, say the phrase of the program.
-pub program_says : (us : List Part) (text : List ℕ) → Says text (agent (agent_phrase us) []) → Says ((signals_text 32 ++ numbers_text 8) ++ text) (program (program_phrase us) [])
+pub program_says : (us : List GeneratedUnit) (text : List ℕ) → Says text (agent (agent_phrase us) []) → Says ((signals_text 32 ++ numbers_text 8) ++ text) (program (program_phrase us) [])
 unfolding signals_text numbers_text
 program_says us text w =
     same_written (append_assoc (signals_text 32) (numbers_text 8) text ∙ first_row (signal_name 0) (separated (codes ", ") (map signal_name (range_with_len 1 31))) (numbers_text 8 ++ text) (codes "; ") (codes "signal "))

@@ -1,4 +1,4 @@
--- The surface of a generated program: 32 signals, 8 numbers from 0 to 99, and a par of its parts. This project's own.
+-- The surface of a generated program: 32 signals, 8 numbers from 0 to 99, and a par of its generated_units. This project's own.
 use Rattle.std.specs.Prelude.{ℕ, ◌+◌, pos, refl, List, [], ◌∷◌, ◌++◌, map}
 use Rattle.std.specs.List.{range_with_len}
 use Rattle.token_system.specs.declared.cell.Kind.TheVariants as kind
@@ -8,7 +8,7 @@ use Rattle.tdcc_reader.specs.Surfaces.{SurfaceProgram}
 use Rattle.tdcc_reader.specs.Trees.{Tree, Skip, Tell, Then, Else, Par, Next, Always, When, Watch, form_listing}
 use Rattle.agent_core.specs.Agents.{Constraint}
 use Rattle.trace_text.specs.Generated.{signal_name, number_name}
-use Rattle.generated_laws.specs.GeneratedParts.{Part, Follows, Defaults, Delays, Starts, Ends, Bounds, parts}
+use Rattle.generated_laws.specs.GeneratedUnits.{GeneratedUnit, Follows, Defaults, Delays, Starts, Ends, Bounds, generated_units}
 
 -- CELLS
 
@@ -24,22 +24,22 @@ cells = map signal_cell (range_with_len 0 32) ++ map number_cell (range_with_len
 
 -- FORMS
 
--- the signal j is on
-abbrev pub on : ℕ → Constraint
-on j = (j, token.On) ∷ []
+-- the signal j is signal_on
+abbrev pub signal_on : ℕ → Constraint
+signal_on j = (j, token.On) ∷ []
 
 -- the number i is k or more
 abbrev pub at_least : ℕ → ℕ → Constraint
 at_least i k = (32 + i, token.AtLeast (pos k)) ∷ []
 
 -- the forms of a part
-abbrev pub part_tree : Part → Tree
-part_tree (Follows g j) = Always (Then (on g) (Tell (on j)))
-part_tree (Defaults g j) = Always (Else (on g) (Tell (on j)))
-part_tree (Delays g j) = Always (Then (on g) (Next (Tell (on j))))
-part_tree (Starts g j) = When (on g) (Always (Tell (on j)))
-part_tree (Ends g j h) = Watch (Always (Else (on g) (Tell (on j)))) (on h)
-part_tree (Bounds g i k) = Always (Then (on g) (Tell (at_least i k)))
+abbrev pub part_tree : GeneratedUnit → Tree
+part_tree (Follows g j) = Always (Then (signal_on g) (Tell (signal_on j)))
+part_tree (Defaults g j) = Always (Else (signal_on g) (Tell (signal_on j)))
+part_tree (Delays g j) = Always (Then (signal_on g) (Next (Tell (signal_on j))))
+part_tree (Starts g j) = When (signal_on g) (Always (Tell (signal_on j)))
+part_tree (Ends g j h) = Watch (Always (Else (signal_on g) (Tell (signal_on j)))) (signal_on h)
+part_tree (Bounds g i k) = Always (Then (signal_on g) (Tell (at_least i k)))
 
 -- the trees in a par that groups to the right
 abbrev pub par_of : List Tree → Tree
@@ -50,7 +50,7 @@ par_of (t ∷ u ∷ us) = Par t (par_of (u ∷ us))
 -- PROGRAMS
 
 abbrev pub tree : ℕ → Tree
-tree n = par_of (map part_tree (parts n))
+tree n = par_of (map part_tree (generated_units n))
 
 abbrev pub surface : ℕ → SurfaceProgram
 surface n = record { cells = cells; declared = 40; forms = form_listing 0 (tree n) }

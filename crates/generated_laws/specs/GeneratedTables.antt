@@ -5,10 +5,10 @@ use Rattle.std.specs.List.{range_with_len}
 use Rattle.agent_core.specs.Programs.{CoreProgram}
 use Rattle.agent_core.specs.WellFormed.{IsWellFormed}
 use Rattle.agent_core.specs.Strata.{Stratifies}
-use Rattle.generated_laws.specs.GeneratedParts.{Part, Starts, Ends, parts}
+use Rattle.generated_laws.specs.GeneratedUnits.{GeneratedUnit, Starts, Ends, generated_units}
 
 -- the numbers of the hidden cells of a part
-abbrev pub part_levels : Part → List ℕ
+abbrev pub part_levels : GeneratedUnit → List ℕ
 part_levels (Starts g j) = 0 ∷ []
 part_levels (Ends g j h) = h ∷ []
 part_levels _ = []
@@ -18,7 +18,7 @@ unfoldable pub declared_levels : List ℕ
 declared_levels = range_with_len 0 32 ++ map (λ i. 32) (range_with_len 0 8)
 
 abbrev pub table : ℕ → List ℕ
-table n = declared_levels ++ flat_map part_levels (parts n)
+table n = declared_levels ++ flat_map part_levels (generated_units n)
 
 -- a program far below the limits, with this table
 pub record IsSmall (p : CoreProgram) (levels : List ℕ) : Type 0 where

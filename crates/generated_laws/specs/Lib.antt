@@ -1,4 +1,4 @@
-pub mod GeneratedParts
+pub mod GeneratedUnits
 pub mod GeneratedSurfaces
 pub mod GeneratedTables
 pub mod GeneratedInputs

@@ -18,7 +18,7 @@ pub use net::Net;
 pub use opening::{NetFault, open_net};
 pub use parts::Atom;
 pub use words::{
-    How, Told, Words, front_store, holds, open_words, put, reaches, runs, tell, value, words_store,
+    How, Told, Words, declared_store, holds, open_words, put, reaches, runs, tell, value, words_store,
 };
 
 #[cfg(test)]

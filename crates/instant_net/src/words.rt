@@ -12,7 +12,7 @@ mod stores;
 use crate::net::Net;
 pub use reading::{holds, reaches, runs, value};
 use std::marker::Model;
-pub use stores::{front_store, open_words, words_store};
+pub use stores::{declared_store, open_words, words_store};
 
 /// How what is told to a word changes it.
 #[derive(Clone, Copy, Debug, PartialEq, Eq)]

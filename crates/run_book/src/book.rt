@@ -11,7 +11,7 @@ ghost use Rattle.residuals.specs.RootLists.{listed};
 ghost use Rattle.run_book.specs.Books.{IsBook, IsClosed, Keeps};
 
 use agent_core::{Levels, Program};
-use instant_net::{Net, Words, front_store, net_outputs_law};
+use instant_net::{Net, Words, declared_store, net_outputs_law};
 use residuals::{Roots, first_roots, next_roots};
 use std::alloc::Global;
 use std::marker::Model;
@@ -125,7 +125,7 @@ impl Book {
         net_outputs_law();
         let next = next_roots(alloc, net, &self.entries.roots, words)?;
         let declared = self.program.declared();
-        let out = front_store(alloc, net, words, declared)?;
+        let out = declared_store(alloc, net, words, declared)?;
         self.entries.push(input, out, next)?;
         Ok(())
     }

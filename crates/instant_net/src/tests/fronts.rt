@@ -3,7 +3,7 @@ ghost use Rattle.instant_net.specs.Words.{AreWords};
 
 use super::making::nested;
 use super::{first_roots, rising_levels};
-use crate::{Net, Words, front_store, open_net, open_words, tell, words_store};
+use crate::{Net, Words, declared_store, open_net, open_words, tell, words_store};
 use std::alloc::Global;
 use std::test::Fail;
 use token_system::{CellName, Store, Value};
@@ -32,7 +32,7 @@ fn the_front_of_the_declared_cells_has_no_local_one(rt: HostRuntime) -> Result<(
     let words = told(rt.alloc(), &net)?;
     let whole = words_store(rt.alloc(), &net, &words)?;
     assert_eq!(rt; net.cells(), 3);
-    let front = front_store(rt.alloc(), &net, &words, 2)?;
+    let front = declared_store(rt.alloc(), &net, &words, 2)?;
     assert_eq!(rt; (whole.len(), front.len()), (2, 1));
     let on = Value::Signal {
         on: true,

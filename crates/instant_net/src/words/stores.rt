@@ -66,11 +66,11 @@ pub fn words_store(alloc: Global, net: &Net, words: &Words) -> Result<Store, Mem
     requires { AreWords net.now.cells words.now }
     ensures { IfOk result (λ store. store ≡ store_in net.now.cells words.now) }
 {
-    front_store(alloc, net, words, net.cells())
+    declared_store(alloc, net, words, net.cells())
 }
 
 /// The store that the words of the first so many cells are. Where these are the declared ones, no local cell is in it.
-pub fn front_store(alloc: Global, net: &Net, words: &Words, cells: u32) -> Result<Store, Memory>
+pub fn declared_store(alloc: Global, net: &Net, words: &Words, cells: u32) -> Result<Store, Memory>
     requires cells { cells ≤ length net.now.cells }
     requires words { AreWords net.now.cells words.now }
     ensures { IfOk result (λ store. store ≡ store_in (take cells net.now.cells) words.now) }

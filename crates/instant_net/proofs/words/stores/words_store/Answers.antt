@@ -9,4 +9,4 @@ pub returns : goal.returns
 returns c =
     let count = c.cells.ensures.count in
     let all : take c.cells.result c.args.net.now.cells ≡ c.args.net.now.cells = take_all c.cells.result c.args.net.now.cells (omega arith) in
-    subst (λ (cells : List NetCell). IfOk c.front_store.result (λ store. store ≡ store_in cells c.args.words.now)) all c.front_store.ensures
+    subst (λ (cells : List NetCell). IfOk c.declared_store.result (λ store. store ≡ store_in cells c.args.words.now)) all c.declared_store.ensures

@@ -7,8 +7,8 @@ use Rattle.run_book.proofs.FrontParts.{declared_within, front-part}
 use Rattle.run_book.proofs.Closings.{closed_book-seen, Closes, closes}
 use Rattle.run_book.proofs.book.Book.close.Goals as goal
 
-pub front_store-requires-clause-cells : goal.front_store-requires-clause-cells
-front_store-requires-clause-cells c =
+pub declared_store-requires-clause-cells : goal.declared_store-requires-clause-cells
+declared_store-requires-clause-cells c =
     subst (λ n. n ≤ length c.args.net.now.cells) (sym (c.declared-declared.ensures.number ∙ ap (λ (b : BookView). b.program.declared) c.self.view_is))
     (declared_within c.args.self.now.program c.args.self.now.levels c.args.net.now c.requires.net.cells)
 

@@ -6,7 +6,7 @@ use Rattle.token_system.specs.Stores.{StoreMap, stored}
 use Rattle.token_system.specs.Values.{IsValueOf}
 use Rattle.instant_net.specs.Words.{store_in}
 use Rattle.instant_net.proofs.KeptValues.{place_read, absent_yet, store_in-more}
-use Rattle.instant_net.proofs.words.stores.front_store.Goals as goal
+use Rattle.instant_net.proofs.words.stores.declared_store.Goals as goal
 
 pub keep-requires-clause-absent : goal.keep-requires-clause-absent
 keep-requires-clause-absent c =
