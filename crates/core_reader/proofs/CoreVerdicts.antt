@@ -1,4 +1,4 @@
--- A text is one core program, or refused for one reason, want of memory aside.
+-- A text is one core program, or refused for one reason, out of memory aside.
 use Rattle.std.proofs.Common.{◌≡◌, ◌≢◌, ◌⊎◌, inl, inr, Result, Ok, Err, ℕ, ◌<◌, ◌≤◌, List, length, Option, Some, None, refl, ap, sym, ◌∙◌, subst}
 use Rattle.std.specs.Prelude.{nat_lt, if◌then◌else◌}
 use Rattle.std.proofs.lemmas.Bool.{lt-ltb, le-ltb}
@@ -105,7 +105,7 @@ one_core_text text p q (x, a, is) (y, b, are) =
 pub text_not_refused : (text : List ℕ) (p : CoreProgram) (f : ReadFault) → f ≢ Memory → IsCoreText text p → RefusesCore text f → ⊥
 text_not_refused text p f m (phrase, a, is) r = accepted_core text phrase f m a r
 
--- Want of memory alone is said against a core program.
+-- Only out of memory is said against a core program.
 pub only_memory : (text : List ℕ) (p : CoreProgram) (f : ReadFault) → IsCoreText text p → RefusesCore text f → f ≡ Memory
 only_memory text p TextTooLong is r = absurd (text_not_refused text p TextTooLong (λ e. cc) is r)
 only_memory text p (Lex n) is r = absurd (text_not_refused text p (Lex n) (λ e. cc) is r)
@@ -124,7 +124,7 @@ only_memory text p TooManyNodes is r = absurd (text_not_refused text p TooManyNo
 only_memory text p TooManyCells is r = absurd (text_not_refused text p TooManyCells (λ e. cc) is r)
 only_memory text p Memory is r = refl
 
--- Of a core program the reader may answer that program, or want of memory.
+-- Of a core program the reader may answer that program, or that memory ran out.
 pub one_answer : (text : List ℕ) (p : CoreProgram) (answer : Result CoreProgram ReadFault) → IsCoreText text p → MayAnswer text answer → (answer ≡ Ok p) ⊎ (answer ≡ Err Memory)
 one_answer text p (Ok q) is may = inl (ap Ok (one_core_text text q p may is))
 one_answer text p (Err f) is may = inr (ap Err (only_memory text p f is may))

@@ -36,6 +36,6 @@ RefusesCore text TooManyNodes = (phrase : Phrase) × Accepts dialect.Core text p
 RefusesCore text TooManyCells = (phrase : Phrase) × Accepts dialect.Core text phrase × (form_count (program_tree phrase) ≤ 4096) × (1024 < length (program_cells phrase))
 RefusesCore text fault = Refuses dialect.Core text fault
 
--- what `read_core` may answer of the text: the core program that it is, or its refusal, where want of memory says nothing
+-- what `read_core` may answer of the text: the core program that it is, or its refusal, where out of memory says nothing
 abbrev pub MayAnswer : List ℕ → Result CoreProgram ReadFault → Type 0
 MayAnswer text answer = MatchResult answer (IsCoreText text) (RefusesCore text)

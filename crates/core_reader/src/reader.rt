@@ -27,7 +27,7 @@ pub fn read_core(alloc: Global, text: &[u8]) -> Result<Program, ReadFault>
     // A refusal is the first one, at its place.
     ensures fault { IfErr result (RefusesCore text.now) }
     // A text that nothing refuses is read, as the one core program that it is.
-    ensures only { (phrase : Phrase) → AcceptsCore text.now phrase
+    ensures complete { (phrase : Phrase) → AcceptsCore text.now phrase
         → MatchResult result (IsCoreOf phrase) (λ fault. fault ≡ ReadFault.Memory) }
 {
     let parts = read_text(alloc, Dialect::Core, text)?;

@@ -23,7 +23,7 @@ pub fn reading_law()
 {}
 
 /// What is written of a program is read back: the core text of a program with good names is that core program, within
-/// all limits, so whatever `read_core` may answer of it is the program, or want of memory.
+/// all limits, so whatever `read_core` may answer of it is the program, or that memory ran out.
 pub fn reading_back_law()
     ensures text { (p : CoreProgram) → IsWellFormed p → HasGoodNames p → IsCoreText (core_text p) p }
     ensures answer { (p : CoreProgram) → IsWellFormed p → HasGoodNames p

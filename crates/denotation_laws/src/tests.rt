@@ -130,7 +130,7 @@ fn first_on(alloc: Global, program: &Program) -> Result<Store, Fail>
 /// So many inputs of which nothing is told.
 fn silence(alloc: Global, program: &Program, instants: usize) -> Result<Vec<Store>, Fail>
     ensures inputs { IfOk result (λ ins. All (IsInput program.now) ins.items) }
-    ensures few { IfOk result (λ ins. length ins.items ≤ instants) }
+    ensures bounded { IfOk result (λ ins. length ins.items ≤ instants) }
 {
     let mut ins = Vec::new(alloc);
     for _ in 0..instants {
@@ -142,7 +142,7 @@ fn silence(alloc: Global, program: &Program, instants: usize) -> Result<Vec<Stor
 /// An input of which nothing is told, and one in which the first declared signal is on.
 fn silence_and_first_on(alloc: Global, program: &Program) -> Result<Vec<Store>, Fail>
     ensures inputs { IfOk result (λ ins. All (IsInput program.now) ins.items) }
-    ensures few { IfOk result (λ ins. length ins.items ≤ 2) }
+    ensures bounded { IfOk result (λ ins. length ins.items ≤ 2) }
 {
     let mut ins = silence(alloc, program, 1)?;
     let on = first_on(alloc, program)?;

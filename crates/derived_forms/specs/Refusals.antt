@@ -6,7 +6,7 @@ use Rattle.expansion_laws.specs.Expansions.{IsSketchOf}
 use Rattle.derived_forms.specs.declared.fault.ExpandFault.{ExpandFault}
 use Rattle.derived_forms.specs.declared.fault.ExpandFault.TheVariants.{TooManyNodes, TooManyCells, Memory}
 
--- The core program would have more than 4,096 nodes; or it would not, and it would have more than 1,024 cells. Want of memory
+-- The core program would have more than 4,096 nodes; or it would not, and it would have more than 1,024 cells. Out of memory
 -- says nothing of the surface.
 abbrev pub Refuses : SurfaceProgram → ExpandFault → Type 0
 Refuses s TooManyNodes = (d : Sketch) × IsSketchOf s d × (4096 < size d)

@@ -27,7 +27,7 @@ const MAX_CELLS: usize = 1_024;
 /// The marks of the news, in preorder, of nodes that are given with the last one first.
 fn marks_of(alloc: Global, grown: &[Piece]) -> Result<Vec<u32>, AllocError>
     ensures marks { (d : Sketch) → reverse grown.now ≡ pieces d → IfOk result (λ found. found.items ≡ marks d) }
-    ensures few { IfOk result (λ found. length found.items ≤ length grown.now) }
+    ensures bounded { IfOk result (λ found. length found.items ≤ length grown.now) }
 {
     grown
         .iter()
@@ -48,7 +48,7 @@ pub fn expand(alloc: Global, surface: &Surface) -> Result<Program, ExpandFault>
     // A refusal is the one that the sizes give.
     ensures fault { IfErr result (Refuses surface.now) }
     // Where the sizes are within their limits, the program is made.
-    ensures only { (d : Sketch) → IsSketchOf surface.now d → size d ≤ 4096 → surface.now.declared + length (marks d) ≤ 1024
+    ensures complete { (d : Sketch) → IsSketchOf surface.now d → size d ≤ 4096 → surface.now.declared + length (marks d) ≤ 1024
         → IfErr result (λ fault. fault ≡ ExpandFault.Memory) }
     // The names of its cells can be written and read back.
     ensures names { IfOk result HasGoodNames }
@@ -59,7 +59,7 @@ pub fn expand(alloc: Global, surface: &Surface) -> Result<Program, ExpandFault>
     ensures clocked { IfOk result (OnItsTree surface.now TellsAreClocked) }
     // A watching in no other and in no time stops for good.
     ensures stopped { IfOk result (OnItsTree surface.now StopsForGood) }
-    // Want of memory is told only of a surface that has no more forms than a program may have nodes.
+    // `Memory` comes only for a surface that has no more forms than a program may have nodes.
     ensures memory { IfErr result (λ fault. fault ≡ ExpandFault.Memory → length surface.now.forms ≤ 4096) }
 {
     expansion_law();

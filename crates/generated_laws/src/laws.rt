@@ -23,7 +23,7 @@ pub fn generated_law()
     ensures built { (n : ℕ) (p : CoreProgram) → IsExpansion (surface n) p → IsSmall p (table n) }
     ensures parted { (n : ℕ) → IsParted n }
     ensures lines { (n : ℕ) (p : CoreProgram) → IsExpansion (surface n) p → All (GivesSomeInput p) (trace_lines n) }
-    ensures few { (n : ℕ) (p : CoreProgram) (closed : List StoreMap) → IsExpansion (surface n) p
+    ensures bounded { (n : ℕ) (p : CoreProgram) (closed : List StoreMap) → IsExpansion (surface n) p
         → length (leaves p (roots p closed) (length closed)) ≤ length p.nodes }
     ensures few_ran { (n : ℕ) (p : CoreProgram) (closed : List StoreMap) (v : StoreMap) → IsExpansion (surface n) p
         → ran p (roots p closed) (length closed) v ≤ length p.nodes }

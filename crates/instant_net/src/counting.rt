@@ -10,7 +10,7 @@ use agent_core::{Closure, Node, Program};
 fn node_leaves(program: &Program, node: u32) -> u64
     requires { node < length program.now.nodes }
     ensures count { result ≡ leaf_count (agent_at program.now.nodes node) }
-    ensures few { result ≤ 4096 }
+    ensures bounded { result ≤ 4096 }
 {
     match &program.nodes()[node as usize] {
         Node::Skip | Node::Tell(_) | Node::Hence { .. } | Node::Next { .. } => 1,

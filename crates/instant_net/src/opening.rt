@@ -23,7 +23,7 @@ use token_system::Memory;
 pub enum NetFault {
     /// There are more leaves than the limit: so many.
     NetFull { leaves: u64 },
-    /// Want of memory.
+    /// Out of memory.
     Memory,
 }
 
@@ -84,7 +84,7 @@ pub fn open_net(
     requires limit { limit ≤ 65536 }
     ensures found { IfOk result (IsNetOf program.now levels.now roots.now t) }
     ensures full { limit < length (root_leaves program.now roots.now t) → result ≡ Err (NetFault.NetFull (length (root_leaves program.now roots.now t))) }
-    ensures only { length (root_leaves program.now roots.now t) ≤ limit → IfErr result (λ e. e ≡ NetFault.Memory) }
+    ensures complete { length (root_leaves program.now roots.now t) ≤ limit → IfErr result (λ e. e ≡ NetFault.Memory) }
 {
     let leaves = count_leaves(program, roots);
     if leaves > u64::from(limit) {

@@ -72,7 +72,7 @@ fn first_roots(alloc: Global, program: &Program) -> Result<Vec<Closure>, Fail>
     requires { IsWellFormed program.now }
     ensures closures { IfOk result (λ roots. AreClosures program.now roots.items) }
     ensures sorted { IfOk result (λ roots. IsStrictlySortedBy closure_cmp roots.items) }
-    ensures few { IfOk result (λ roots. length roots.items ≤ 131072) }
+    ensures bounded { IfOk result (λ roots. length roots.items ≤ 131072) }
 {
     let mut roots = Vec::new(alloc);
     roots.push(Closure {

@@ -17,7 +17,7 @@ AreSteps p steps = steps ≡ numbered 0 (program_events p)
 abbrev pub IsReading : Language → List Term → List Step → Type 0
 IsReading language terms steps = (p : ProgramPhrase) × Spells language p terms × AreSteps p steps
 
--- a fault of syntax is at its place, and want of memory says nothing of the terms
+-- a fault of syntax is at its place, and out of memory says nothing of the terms
 abbrev pub IsSyntaxFault : Language → List Term → ParseFault → Type 0
 IsSyntaxFault language terms (Syntax place) = IsFault language terms place
 IsSyntaxFault language terms Memory = Unit {0}

@@ -137,7 +137,7 @@ pub fn parse(alloc: Global, language: Language, words: &[Word]) -> Result<Vec<St
     ensures fault { (terms : List Term) → classes terms ≡ words.now
         → IfErr result (IsSyntaxFault language terms) }
     // A program is read, and no other program has its words.
-    ensures only { (terms : List Term) (p : ProgramPhrase) → classes terms ≡ words.now
+    ensures complete { (terms : List Term) (p : ProgramPhrase) → classes terms ≡ words.now
         → Spells language p terms
         → MatchResult result (λ steps. AreSteps p steps.items) (λ fault. fault ≡ ParseFault.Memory) }
 {

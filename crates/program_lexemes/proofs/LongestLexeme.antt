@@ -1,4 +1,4 @@
--- The longest lexeme at the front of some bytes, by their first byte.
+-- The longest lexeme at the start of some bytes, by their first byte.
 use Rattle.std.proofs.Common.{subst, ◌≡◌, ℕ, ◌+◌, ◌<◌, ◌≤◌, List, [], ◌∷◌, length, take, refl, ap, sym, ◌∙◌, arith, add-one, Option, Some, None, Bool, true, false, zero, suc}
 use Rattle.std.proofs.lemmas.Bool.{eqb-true}
 use Rattle.std.specs.Prelude.{◌≢◌, IsSome, if◌then◌else◌}

@@ -1,4 +1,4 @@
--- The fronts of a list of bytes that pass a test, byte by byte, as digits, and as at most nine digits.
+-- The prefixes of a list of bytes that pass a test, byte by byte, as digits, and as at most nine digits.
 use Rattle.std.proofs.Common.{◌≡◌, ℕ, ◌<◌, ◌≤◌, List, [], ◌∷◌, length, take, refl, ap, ◌∙◌, arith, Bool, true, false, zero, suc, min}
 use Rattle.std.specs.Prelude.{if◌then◌else◌, ◌&&◌, nat_le}
 use Rattle.std.specs.List.{list_all}

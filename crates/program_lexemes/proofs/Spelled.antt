@@ -99,7 +99,7 @@ no_symbol bs h = go (is_symbol bs) refl
     go true e = let (s, q) = symbol_spelled bs e in let short : length bs ≤ 2 = subst (λ (l : List ℕ). length l ≤ 2) (sym q) (symbol_short s) in absurd (omega (arith, h, short))
     go false e = refl
 
--- so many bytes at the front are a symbol, as the look-up tells
+-- so many first bytes are a symbol, as the look-up tells
 pub front_told : (bs : List ℕ) (size : ℕ) (r : Bool) → size ≤ length bs → r ≡ is_symbol (take size bs) → MatchBool r ((size ≤ length bs) × (is_symbol (take size bs) ≡ true)) (size ≤ length bs → is_symbol (take size bs) ≡ false)
 front_told bs size true h e = (h, sym e)
 front_told bs size false h e = λ _. sym e

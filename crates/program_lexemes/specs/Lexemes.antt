@@ -8,7 +8,7 @@ use Rattle.program_lexemes.specs.declared.lexer.LexFault.TheVariants.{Bad, Memor
 use Rattle.program_lexemes.specs.declared.bytes.TextForm.{TextForm}
 use Rattle.program_lexemes.specs.Forms.{kind_of, is_white}
 
--- so many bytes at the front are a lexeme of this kind, and no more are one
+-- so many first bytes are a lexeme of this kind, and no more are one
 pub record IsLongest (form : TextForm) (bytes : List ℕ) (size : ℕ) (kind : LexKind) : Type 0 where
   pub within : size ≤ length bytes
   pub is : kind_of form (take size bytes) ≡ Some kind
@@ -46,7 +46,7 @@ pub record IsBad (form : TextForm) (text : List ℕ) (offset : ℕ) : Type 0 whe
   pub none : NoLexeme form (drop offset text)
   pub before : (ls : List Lexeme) × Reads form text 0 ls offset
 
--- a bad byte is at its offset, and want of memory says nothing of the text
+-- a bad byte is at its offset, and out of memory says nothing of the text
 abbrev pub IsLexFault : TextForm → List ℕ → LexFault → Type 0
 IsLexFault form text (Bad offset) = IsBad form text offset
 IsLexFault form text Memory = Unit {0}

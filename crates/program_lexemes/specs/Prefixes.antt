@@ -1,17 +1,17 @@
--- The fronts of a list of bytes that pass a test.
+-- The prefixes of a list of bytes that pass a test.
 use Rattle.std.specs.Prelude.{◌≡◌, ℕ, ◌≤◌, suc, List, [], ◌∷◌, length, take, Bool, true, false, if◌then◌else◌}
 
--- how many bytes at the front pass
+-- how many first bytes pass
 abbrev pub prefix_len : (ℕ → Bool) → List ℕ → ℕ
 prefix_len test [] = 0
 prefix_len test (b ∷ bs) = if test b then suc (prefix_len test bs) else 0
 
--- so many bytes at the front pass together, and no more do
+-- so many first bytes pass together, and no more do
 pub record IsLongestPrefix (test : List ℕ → Bool) (bytes : List ℕ) (size : ℕ) : Type 0 where
   pub within : size ≤ length bytes
   pub passes : test (take size bytes) ≡ true
   pub longest : (n : ℕ) → n ≤ length bytes → test (take n bytes) ≡ true → n ≤ size
 
--- however many bytes at the front do not pass together
+-- however many first bytes do not pass together
 abbrev pub NoPrefix : (List ℕ → Bool) → List ℕ → Type 0
 NoPrefix test bytes = (n : ℕ) → n ≤ length bytes → test (take n bytes) ≡ false

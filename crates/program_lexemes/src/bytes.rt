@@ -49,7 +49,7 @@ pub fn is_dollar(form: TextForm, byte: u8) -> bool
     }
 }
 
-/// How many bytes at the front may stand in a word.
+/// How many first bytes may stand in a word.
 pub fn word_len(bytes: &[u8]) -> usize
     ensures value { result ≡ prefix_len is_word_byte bytes.now }
     ensures within { result ≤ length bytes.now }
@@ -62,7 +62,7 @@ pub fn word_len(bytes: &[u8]) -> usize
     bytes.len()
 }
 
-/// How many bytes at the front are digits.
+/// How many first bytes are digits.
 pub fn digits_len(bytes: &[u8]) -> usize
     ensures value { result ≡ prefix_len is_digit bytes.now }
     ensures within { result ≤ length bytes.now }

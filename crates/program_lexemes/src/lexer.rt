@@ -52,7 +52,7 @@ fn word_kind(word: &[u8]) -> LexKind
     }
 }
 
-/// Whether so many bytes at the front are a symbol.
+/// Whether so many first bytes are a symbol.
 fn begins_with_symbol(bytes: &[u8], size: usize) -> bool
     ensures { MatchBool result
         ((size ≤ length bytes.now) × (is_symbol (take size bytes.now) ≡ true))
@@ -61,7 +61,7 @@ fn begins_with_symbol(bytes: &[u8], size: usize) -> bool
     size <= bytes.len() && symbol_of(&bytes[..size]).is_some()
 }
 
-/// How many bytes the longest symbol at the front has.
+/// How many bytes the longest symbol at the start has.
 fn longest_symbol(bytes: &[u8]) -> Option<usize>
     ensures { MatchOption result (NoPrefix is_symbol bytes.now) (IsLongestPrefix is_symbol bytes.now) }
 {
@@ -74,7 +74,7 @@ fn longest_symbol(bytes: &[u8]) -> Option<usize>
     }
 }
 
-/// The longest lexeme at the front: its kind, and how many bytes it has.
+/// The longest lexeme at the start: its kind, and how many bytes it has.
 fn longest(form: TextForm, bytes: &[u8]) -> Option<(LexKind, usize)>
     ensures { MatchOption result (NoLexeme form bytes.now) (λ l. IsLongest form bytes.now l.1 l.0) }
 {
@@ -149,11 +149,11 @@ pub fn lexemes(alloc: Global, form: TextForm, text: &[u8]) -> Result<Vec<Lexeme>
     ensures found { IfOk result (λ ls. AreLexemes form text.now ls.items) }
     // What stands in the text under a lexeme is of its kind.
     ensures each { IfOk result (λ ls. All (IsIn form text.now) ls.items) }
-    ensures few { IfOk result (λ ls. vec_len ls ≤ length text.now) }
+    ensures bounded { IfOk result (λ ls. vec_len ls ≤ length text.now) }
     // A refusal is at the first bad byte.
     ensures fault { IfErr result (IsLexFault form text.now) }
     // A text that has lexemes is read as these, and it has no others.
-    ensures only { (ls : List Lexeme) → AreLexemes form text.now ls
+    ensures complete { (ls : List Lexeme) → AreLexemes form text.now ls
         → MatchResult result (λ found. found.items ≡ ls) (λ fault. fault ≡ LexFault.Memory) }
 {
     match read_lexemes(alloc, form, text) {

@@ -13,7 +13,7 @@ pub fn ran(net: &Net, words: &Words) -> u64
     requires { AreWords net.now.cells words.now }
     ensures counts { (p : CoreProgram) (table : List ℕ) (rs : List Closure) (t : ℕ) → IsNetOf p table rs t net.now
         → result ≡ leaves.ran p rs t (store_in net.now.cells words.now) }
-    ensures few { result ≤ 65536 }
+    ensures bounded { result ≤ 65536 }
 {
     let mut ran = 0;
     for leaf in 0..net.leaves() {

@@ -71,7 +71,7 @@ impl Roots {
     pub fn list(&self, alloc: Global) -> Result<Vec<Closure>, Memory>
         ensures all { IfOk result (λ list. list.items ≡ listed self.now) }
         ensures sorted { IsStrictlySortedBy closure_cmp (listed self.now) }
-        ensures few { length (listed self.now) ≡ length self.now.once + length self.now.stay }
+        ensures bounded { length (listed self.now) ≡ length self.now.once + length self.now.stay }
         ensures within { length (listed self.now) ≤ 131072 }
     {
         let mut list = Vec::new(alloc);

@@ -49,7 +49,7 @@ fn tell_due(net: &Net, words: &mut Words, stratum: u32) -> bool
     ensures way { Advances net.now stratum stratum words.old words.new }
     ensures fewer { untold net.now (store_in net.now.cells words.new) net.now.leaves + cond result 1 0
         ≤ untold net.now (store_in net.now.cells words.old) net.now.leaves }
-    ensures calm { result ≡ false → All (λ l. ways.is_due net.now stratum (store_in net.now.cells words.new) l ≡ false) net.now.leaves }
+    ensures at_rest { result ≡ false → All (λ l. ways.is_due net.now stratum (store_in net.now.cells words.new) l ≡ false) net.now.leaves }
 {
     let mut told = false;
     for leaf in 0..net.leaves() {

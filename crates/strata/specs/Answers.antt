@@ -10,7 +10,7 @@ abbrev pub NamesFirstCase : CoreProgram → StrataFault → Type 0
 NamesFirstCase p (NotStratified guard told node) = (e : Edge) × IsFirstCase p e × (e.guard.cell ≡ guard) × (e.told ≡ told) × (e.guard.node ≡ node)
 NamesFirstCase p Memory = Unit {0}
 
--- where it is not for want of memory, no table stratifies the program
+-- unless memory ran out, no table stratifies the program
 abbrev pub SaysNoTable : CoreProgram → StrataFault → Type 0
 SaysNoTable p (NotStratified guard told node) = HasNoTable p
 SaysNoTable p Memory = Unit {0}

@@ -15,7 +15,7 @@ use std::alloc::Global;
 pub fn strata(alloc: Global, program: &Program) -> Result<Levels, StrataFault>
     ensures table { IfOk result (Stratifies program.now) }
     ensures least { IfOk result (IsLeastTable program.now) }
-    ensures only { IfOk result (λ _. HasNoFirstCase program.now) }
+    ensures complete { IfOk result (λ _. HasNoFirstCase program.now) }
     ensures first { IfErr result (NamesFirstCase program.now) }
     ensures none { IfErr result (SaysNoTable program.now) }
 {

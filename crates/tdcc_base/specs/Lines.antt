@@ -24,7 +24,7 @@ abbrev pub after_line : List ℕ → List ℕ
 after_line [] = []
 after_line (b ∷ bytes) = if b == 10 then bytes else after_line bytes
 
--- the lines, where the first of them is longer by a byte at its front
+-- the lines, where the first of them is longer by a byte at its start
 abbrev pub onto_first : ℕ → List (List ℕ) → List (List ℕ)
 onto_first b [] = (b ∷ []) ∷ []
 onto_first b (line ∷ lines) = (b ∷ line) ∷ lines
@@ -45,7 +45,7 @@ pub record IsFirstLine (bytes line rest : List ℕ) : Type 0 where
 abbrev pub ConsumesOneMore : Option (List ℕ) → Option (List ℕ) → List ℕ → Type 0
 ConsumesOneMore old new bytes = (more : List ℕ) × (length more ≤ 1) × Consumes old new (bytes ++ more)
 
--- A line was read, where the bytes are known. After a fault a front of the line was taken, and no more.
+-- A line was read, where the bytes are known. After a fault a prefix of the line was taken, and no more.
 abbrev pub ReadsLine : Option (List ℕ) → Option (List ℕ) → List ℕ → Result LineEnd ReadStop → Type 0
 ReadsLine None new line result = Unit {0}
 ReadsLine (Some bytes) new line (Ok ends.Line) = (rest : List ℕ) × IsFirstLine bytes line rest × (length line ≤ 32768) × (new ≡ Some rest)

@@ -72,7 +72,7 @@ pub record IsTextRead (bytes : List ℕ) (new : Option (List ℕ)) (text : List 
   pub is_end : end ≡ end_of bytes
   pub short : length text ≤ 65536
 
--- whole lines of which none is a mark, and a front of the line behind them
+-- whole lines of which none is a mark, and a prefix of the line behind them
 pub record IsTextSoFar (bytes : List ℕ) : Type 0 where
   pub lines : List ℕ
   pub part : List ℕ
@@ -81,7 +81,7 @@ pub record IsTextSoFar (bytes : List ℕ) : Type 0 where
   pub no_mark : HasNoMark lines
   pub no_feed : HasNoFeed part
 
--- A text was read, where the bytes are known. After a fault a front of the bytes was taken, and no more.
+-- A text was read, where the bytes are known. After a fault a prefix of the bytes was taken, and no more.
 abbrev pub ReadsText : Option (List ℕ) → Option (List ℕ) → List ℕ → Result TextEnd ReadStop → Type 0
 ReadsText None new text result = Unit {0}
 ReadsText (Some bytes) new text (Ok end) = IsTextRead bytes new text end

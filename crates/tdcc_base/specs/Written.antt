@@ -3,11 +3,11 @@ use Rattle.std.specs.Prelude.{◌⊎◌, ℕ, ◌<◌, ◌≤◌, List, length, 
 use Rattle.std.specs.Io.KnownBytes.{Appends}
 use Rattle.tdcc_base.specs.Causes.{Rose}
 
--- by a front of the bytes that is not all of them
+-- by a prefix of the bytes that is not all of them
 abbrev pub AppendsProperPrefix : Option (List ℕ) → Option (List ℕ) → List ℕ → Type 0
 AppendsProperPrefix before now bytes = (n : ℕ) × (n < length bytes) × Appends before now (take n bytes)
 
--- by a front of the bytes, which may be all of them
+-- by a prefix of the bytes, which may be all of them
 abbrev pub AppendsPrefix : Option (List ℕ) → Option (List ℕ) → List ℕ → Type 0
 AppendsPrefix before now bytes = (n : ℕ) × (n ≤ length bytes) × Appends before now (take n bytes)
 

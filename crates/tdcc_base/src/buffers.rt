@@ -65,14 +65,14 @@ impl Buffers {
     pub(crate) fn read_line<S: Source>(&mut self, source: &mut S) -> Result<LineEnd, ReadStop>
         requires ready { IsReady S.left self.old.ahead source.old }
         ensures line { IsNone self.old.stop → ReadsLine (unread S.left self.old.ahead source.old) (unread S.left self.new.ahead source.new) self.new.line.items result }
-        ensures again { IfSome self.old.stop (λ stop. (result ≡ Err stop) × (self.new ≡ self.old) × (source.new ≡ source.old)) }
+        ensures repeats_stop { IfSome self.old.stop (λ stop. (result ≡ Err stop) × (self.new ≡ self.old) × (source.new ≡ source.old)) }
         ensures stopped { self.new.stop ≡ result_err result }
         ensures ready { IsReady S.left self.new.ahead source.new }
         ensures end { result ≡ Ok LineEnd.End → IsOver self.new.ahead }
         ensures drained { IsNone self.old.stop → IsErrOf result ReadStop.Read → IsDrained self.new.ahead }
         ensures stays { StaysEnded self.old.ahead self.new.ahead source.old source.new }
         ensures over { IsNone self.old.stop → IsOver self.old.ahead → (result ≡ Ok LineEnd.End) × IsOver self.new.ahead }
-        ensures later { S.faults source.old ≤ S.faults source.new }
+        ensures faults_only_rise { S.faults source.old ≤ S.faults source.new }
         ensures read { IsNone self.old.stop → IsErrOf result ReadStop.Read → Rose (S.faults source.old) (S.faults source.new) }
         ensures steady { IsNone self.old.stop → StaysSteady (S.steady source.old) (S.steady source.new) (IsErrOf result ReadStop.Read) }
         ensures short { IfOk result (λ _. vec_len self.new.line ≤ 32768) }
@@ -104,7 +104,7 @@ impl Buffers {
         ensures drained { IsErrOf result ReadStop.Read → IsDrained self.new.ahead }
         ensures stays { StaysEnded self.old.ahead self.new.ahead source.old source.new }
         ensures short { IfOk result (λ _. vec_len self.new.text ≤ 65536) }
-        ensures later { S.faults source.old ≤ S.faults source.new }
+        ensures faults_only_rise { S.faults source.old ≤ S.faults source.new }
         ensures read { IsErrOf result ReadStop.Read → Rose (S.faults source.old) (S.faults source.new) }
         ensures steady { StaysSteady (S.steady source.old) (S.steady source.new) (IsErrOf result ReadStop.Read) }
     {
@@ -125,7 +125,7 @@ impl Buffers {
         ensures drained { IsErrOf result ReadStop.Read → IsDrained self.new.ahead }
         ensures stays { StaysEnded self.old.ahead self.new.ahead source.old source.new }
         ensures short { IfOk result (λ _. vec_len self.new.text ≤ 65536) }
-        ensures later { S.faults source.old ≤ S.faults source.new }
+        ensures faults_only_rise { S.faults source.old ≤ S.faults source.new }
         ensures read { IsErrOf result ReadStop.Read → Rose (S.faults source.old) (S.faults source.new) }
         ensures steady { StaysSteady (S.steady source.old) (S.steady source.new) (IsErrOf result ReadStop.Read) }
         ensures stop { self.new.stop ≡ self.old.stop }

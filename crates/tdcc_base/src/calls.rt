@@ -40,7 +40,7 @@ impl Calls {
         ensures next { next_number self.new ≡ next_number self.old }
         ensures list { failing_calls self.new ≡ failing_calls self.old }
         ensures faults { self.new.faults ≡ next_count self.old.faults }
-        ensures later { self.old.faults ≤ self.new.faults }
+        ensures faults_only_rise { self.old.faults ≤ self.new.faults }
     {
         self.faults = self.faults.saturating_add(1);
     }

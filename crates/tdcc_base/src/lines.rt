@@ -69,7 +69,7 @@ impl<'a, S: Source> Lines<'a, S> {
         ensures no_more { ReadsNoMoreAfterEnd self.old self.new }
 
         // A fault of the source.
-        ensures later { S.faults (source_of self.old) ≤ S.faults (source_of self.new) }
+        ensures faults_only_rise { S.faults (source_of self.old) ≤ S.faults (source_of self.new) }
         ensures read { IsErrOf result ReadStop.Read → Rose (S.faults (source_of self.old)) (S.faults (source_of self.new)) }
         ensures read_before_end { IsErrOf result ReadStop.Read → HasNotEnded self.new }
         ensures read_all { IsErrOf result ReadStop.Read → HoldsNothingBack S.left self.new }
@@ -94,7 +94,7 @@ impl<'a, S: Source> Lines<'a, S> {
         ensures ready { LinesReady S.left self.new }
 
         // A stop is kept, and answered again with no read.
-        ensures again { IfSome (stop_of self.old) (λ stop. (result ≡ Err stop) × (self.new ≡ self.old)) }
+        ensures repeats_stop { IfSome (stop_of self.old) (λ stop. (result ≡ Err stop) × (self.new ≡ self.old)) }
         ensures stopped { stop_of self.new ≡ result_err result }
         ensures going_on { IfOk result (λ _. IsNone (stop_of self.new)) }
 
@@ -105,7 +105,7 @@ impl<'a, S: Source> Lines<'a, S> {
         ensures no_more { ReadsNoMoreAfterEnd self.old self.new }
 
         // A fault of the source.
-        ensures later { S.faults (source_of self.old) ≤ S.faults (source_of self.new) }
+        ensures faults_only_rise { S.faults (source_of self.old) ≤ S.faults (source_of self.new) }
         ensures read { IsNone (stop_of self.old) → IsErrOf result ReadStop.Read → Rose (S.faults (source_of self.old)) (S.faults (source_of self.new)) }
         ensures read_before_end { IsNone (stop_of self.old) → IsErrOf result ReadStop.Read → HasNotEnded self.new }
         ensures read_all { IsNone (stop_of self.old) → IsErrOf result ReadStop.Read → HoldsNothingBack S.left self.new }

@@ -6,7 +6,7 @@ ghost use Rattle.tdcc_base.specs.Promises.{StaysSteady, TakesWithin};
 
 use std::alloc::AllocError;
 
-/// Want of memory.
+/// Out of memory.
 pub type Memory = AllocError;
 
 /// A device refused a call, and counted that.
@@ -25,7 +25,7 @@ pub trait Source {
     /// it may still refuse none.
     ghost steady: { Self → Bool };
 
-    /// Reads some of the bytes that are left into the front of `into`, and answers how many.
+    /// Reads some of the bytes that are left to the start of `into`, and answers how many.
     /// `Ok(0)` is the end of the bytes.
     ///
     /// # Errors
@@ -50,7 +50,7 @@ pub trait Sink {
     /// it promises nothing of the next write either.
     ghost room: { Self → Option ℕ };
 
-    /// Takes some bytes of the front of `from`, at least one, and answers how many.
+    /// Takes a prefix of `from`, at least one, and answers how many.
     ///
     /// # Errors
     /// `Failed` where the device refused the call or took nothing: it has counted that.

@@ -113,7 +113,7 @@ impl ReadAhead {
         ensures drained { IsErrOf result ReadStop.Read → IsDrained self.new }
         ensures stays { StaysEnded self.old self.new source.old source.new }
         ensures over { IsOver self.old → (result ≡ Ok LineBreak.End) × (self.new ≡ self.old) × (into.new.items ≡ into.old.items) }
-        ensures later { S.faults source.old ≤ S.faults source.new }
+        ensures faults_only_rise { S.faults source.old ≤ S.faults source.new }
         ensures read { IsErrOf result ReadStop.Read → Rose (S.faults source.old) (S.faults source.new) }
         ensures steady { StaysSteady (S.steady source.old) (S.steady source.new) (IsErrOf result ReadStop.Read) }
     {

@@ -1,4 +1,4 @@
--- A text has one verdict: it is accepted as one program, or refused for one reason, want of memory aside.
+-- A text has one verdict: it is accepted as one program, or refused for one reason, out of memory aside.
 use Rattle.std.proofs.Common.{◌≡◌, ◌≢◌, ℕ, ◌<◌, ◌≤◌, List, length, Option, Some, None, refl, ap, sym, ◌∙◌, arith, subst}
 use Rattle.std.specs.Prelude.{position, slice_get, option_map, nat_lt, if◌then◌else◌}
 use Rattle.std.proofs.lemmas.Bool.{lt-ltb, le-ltb}

@@ -12,7 +12,7 @@ pub ok_to : {A E : Type 0} (r : Result A E) (P Q : A → Type 0) → IfOk r P �
 ok_to (Ok v) P Q h f = f v h
 ok_to (Err e) P Q h f = h
 
--- a value or want of memory
+-- a value or out of memory
 pub ok_or : {A E : Type 0} (r : Result A E) (P Q : A → Type 0) (R S : E → Type 0) → IfOk r P → IfErr r R → ((v : A) → P v → Q v) → ((e : E) → R e → S e) → MatchResult r Q S
 ok_or (Ok v) P Q R S h k f g = f v h
 ok_or (Err e) P Q R S h k f g = g e k

@@ -6,10 +6,10 @@ use Rattle.tdcc_reader.specs.declared.fault.ReadFault.{ReadFault}
 use Rattle.tdcc_reader.specs.declared.fault.ReadFault.TheVariants.{Memory}
 use Rattle.tdcc_reader.specs.Refusals.{Accepts, Refuses}
 
--- want of memory aside, the text is refused for one reason, at one place
+-- out of memory aside, the text is refused for one reason, at one place
 abbrev pub HasOneRefusal : Dialect → List ℕ → Type 0
 HasOneRefusal dialect text = (f g : ReadFault) → f ≢ Memory → g ≢ Memory → Refuses dialect text f → Refuses dialect text g → f ≡ g
 
--- want of memory aside, the text is not refused where it is accepted
+-- out of memory aside, the text is not refused where it is accepted
 abbrev pub AcceptedIsNotRefused : Dialect → List ℕ → Type 0
 AcceptedIsNotRefused dialect text = (p : ProgramPhrase) (f : ReadFault) → f ≢ Memory → Accepts dialect text p → Refuses dialect text f → ⊥

@@ -65,7 +65,7 @@ RefusesNames p (WrongKind place) = program_fault p ≡ Some (naming.WrongKind pl
 RefusesNames p Memory = Unit {0}
 RefusesNames p _ = ⊥
 
--- the terms belong to a form that is not built yet, or are no program, or are one that is refused; want of memory says
+-- the terms belong to a form that is not built yet, or are no program, or are one that is refused; out of memory says
 -- nothing of them
 abbrev pub RefusesTerms : Dialect → List Term → ReadFault → Type 0
 RefusesTerms dialect ts (Later place) = position is_later (classes ts) ≡ Some place

@@ -19,9 +19,9 @@ use std::alloc::Global;
 fn read_lexemes(alloc: Global, dialect: Dialect, text: &[u8]) -> Result<Vec<Lexeme>, ReadFault>
     ensures found { IfOk result (λ ls. IsLexed dialect text.now ls.items) }
     ensures each { IfOk result (λ ls. All (IsIn (text_form dialect) text.now) ls.items) }
-    ensures few { IfOk result (λ ls. length ls.items ≤ MAX_TEXT) }
+    ensures bounded { IfOk result (λ ls. length ls.items ≤ MAX_TEXT) }
     ensures fault { IfErr result (Refuses dialect text.now) }
-    ensures only { (ls : List Lexeme) → IsLexed dialect text.now ls
+    ensures complete { (ls : List Lexeme) → IsLexed dialect text.now ls
         → MatchResult result (λ found. found.items ≡ ls) (λ fault. fault ≡ ReadFault.Memory) }
 {
     if text.len() > dialect.max_bytes() {
@@ -55,9 +55,9 @@ pub(crate) fn read_terms(
     text: &[u8],
 ) -> Result<Vec<Term<'_>>, ReadFault>
     ensures found { IfOk result (λ ts. HasTerms dialect text.now (map term_view ts.items)) }
-    ensures few { IfOk result (λ ts. length ts.items ≤ MAX_TEXT) }
+    ensures bounded { IfOk result (λ ts. length ts.items ≤ MAX_TEXT) }
     ensures fault { IfErr result (Refuses dialect text.now) }
-    ensures only { (ts : List GrammarTerm) → HasTerms dialect text.now ts
+    ensures complete { (ts : List GrammarTerm) → HasTerms dialect text.now ts
         → MatchResult result (λ found. map term_view found.items ≡ ts) (λ fault. fault ≡ ReadFault.Memory) }
 {
     let lexemes = read_lexemes(alloc, dialect, text)?;

@@ -191,7 +191,7 @@ pub(crate) fn check_limits(
         → IfOk result (λ _. program_limit dialect p ≡ None) }
     ensures fault { (language : Language) (p : ProgramPhrase) → Spells language p (map term_view terms.now) → AreSteps p steps.now
         → IfErr result (RefusesLimits dialect p) }
-    ensures only { (language : Language) (p : ProgramPhrase) → Spells language p (map term_view terms.now) → AreSteps p steps.now
+    ensures complete { (language : Language) (p : ProgramPhrase) → Spells language p (map term_view terms.now) → AreSteps p steps.now
         → program_limit dialect p ≡ None → IsOk result }
 {
     match past_limit(dialect, terms, steps) {

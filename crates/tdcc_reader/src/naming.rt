@@ -268,7 +268,7 @@ pub(crate) fn check_names(
         → IfOk result (λ _. program_fault p ≡ None) }
     ensures fault { (language : Language) (p : ProgramPhrase) → Spells language p (map term_view terms.now) → AreSteps p steps.now
         → IfErr result (RefusesNames p) }
-    ensures only { (language : Language) (p : ProgramPhrase) → Spells language p (map term_view terms.now) → AreSteps p steps.now
+    ensures complete { (language : Language) (p : ProgramPhrase) → Spells language p (map term_view terms.now) → AreSteps p steps.now
         → program_fault p ≡ None → IfErr result (λ fault. fault ≡ ReadFault.Memory) }
 {
     match name_fault(alloc, terms, steps) {

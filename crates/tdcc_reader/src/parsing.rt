@@ -38,7 +38,7 @@ pub(crate) fn read_steps(
     ensures found { IfOk result (λ steps. (p : ProgramPhrase) ×
         IsProgramOf dialect (map term_view terms.now) p × AreSteps p steps.items) }
     ensures fault { IfErr result (RefusesTerms dialect (map term_view terms.now)) }
-    ensures only { (p : ProgramPhrase) → IsProgramOf dialect (map term_view terms.now) p
+    ensures complete { (p : ProgramPhrase) → IsProgramOf dialect (map term_view terms.now) p
         → MatchResult result (λ steps. AreSteps p steps.items) (λ fault. fault ≡ ReadFault.Memory) }
 {
     let words = words(alloc, terms)?;

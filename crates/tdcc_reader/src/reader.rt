@@ -42,7 +42,7 @@ fn build_checked<'a>(
         → IfOk result (λ b. IsChecked dialect p (built_view b)) }
     ensures fault { (p : ProgramPhrase) → IsProgramOf dialect (map term_view terms.now) p → AreSteps p steps.now
         → IfErr result (RefusesTerms dialect (map term_view terms.now)) }
-    ensures only { (p : ProgramPhrase) → IsProgramOf dialect (map term_view terms.now) p → AreSteps p steps.now
+    ensures complete { (p : ProgramPhrase) → IsProgramOf dialect (map term_view terms.now) p → AreSteps p steps.now
         → program_limit dialect p ≡ None → program_fault p ≡ None → length (declared_cells p) ≤ 256
         → IfErr result (λ fault. fault ≡ ReadFault.Memory) }
 {
@@ -66,7 +66,7 @@ pub fn read_text(alloc: Global, dialect: Dialect, text: &[u8]) -> Result<Parts, 
     // A refusal is the first one, at its place.
     ensures fault { IfErr result (Refuses dialect text.now) }
     // A text that nothing refuses is read, as the one program that it is.
-    ensures only { (p : ProgramPhrase) → Accepts dialect text.now p
+    ensures complete { (p : ProgramPhrase) → Accepts dialect text.now p
         → MatchResult result (λ parts. IsSurfaceOf p (surface_of parts)) (λ fault. fault ≡ ReadFault.Memory) }
 {
     let terms = read_terms(alloc, dialect, text)?;
@@ -86,7 +86,7 @@ pub fn read_program(alloc: Global, text: &[u8]) -> Result<Surface, ReadFault>
     // A refusal is the first one, at its place.
     ensures fault { IfErr result (Refuses Dialect.Program text.now) }
     // A text that nothing refuses is read, as the one program that it is.
-    ensures only { (p : ProgramPhrase) → Accepts Dialect.Program text.now p
+    ensures complete { (p : ProgramPhrase) → Accepts Dialect.Program text.now p
         → MatchResult result (IsSurfaceOf p) (λ fault. fault ≡ ReadFault.Memory) }
 {
     let parts = read_text(alloc, Dialect::Program, text)?;

@@ -1,4 +1,4 @@
--- Two answers of a program to the same trace are one: the run of the shorter is a front of the longer's, and ends where that goes on.
+-- Two answers of a program to the same trace are one: the run of the shorter is a prefix of the longer's, and ends where that goes on.
 use Rattle.std.proofs.Common.{◌≡◌, ℕ, zero, suc, ◌<◌, ◌≤◌, List, [], ◌∷◌, ◌++◌, length, take, drop, get_or, Some, refl, sym, ap, ◌∙◌, subst, arith, ◌⊎◌, inl, inr}
 use Rattle.std.specs.Prelude.{slice_get}
 use Rattle.std.specs.FinMap.{empty}
@@ -56,7 +56,7 @@ below_or_same (suc m) zero f g = absurd (g (let h : 0 < suc m = omega arith in h
 below_or_same (suc m) (suc n) f g = ap suc (below_or_same m n (λ h. f (omega arith)) (λ h. g (omega arith)))
 
 module _ (p : CoreProgram) where
-  -- a front of a run is a run
+  -- a prefix of a run is a run
   pub run-front : (ins outs : List StoreMap) (n : ℕ) → n ≤ length ins → IsRun p ins outs → IsRun p (take n ins) (take n outs)
   run-front ins outs n le run =
       let w = run.whole in
@@ -192,7 +192,7 @@ module _ (p : CoreProgram) where
     abbrev IsAnswer : Status → List ℕ → List ℕ → Type 0
     IsAnswer s o e = RunAnswer p writing limits lines s o e
 
-    -- the shorter of two runs is a front of the longer
+    -- the shorter of two runs is a prefix of the longer
     front_outs : (s s' : Status) (o o' e e' : List ℕ) (a : IsAnswer s o e) (b : IsAnswer s' o' e') → length a.ins ≤ length b.ins → a.outs ≡ take (length a.ins) b.outs
     front_outs s s' o o' e e' a b le =
         let ins = same_front lines a.ins b.ins a.given b.given le in

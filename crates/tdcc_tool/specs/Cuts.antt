@@ -1,4 +1,4 @@
--- What out holds of the answer where a fault or want of memory cut the call short. This project's own.
+-- What out holds of the answer where a fault, or memory that ran out, cut the call short. This project's own.
 use Rattle.std.specs.Prelude.{◌≡◌, ◌≢◌, ◌⊎◌, ℕ, List, [], ◌∷◌, ◌++◌, Option, Some, None, All, String}
 use Rattle.std.specs.declared.alloc.Global.{Global}
 use Rattle.tdcc_base.specs.Written.{AppendsProperPrefix, AppendsPrefix}
@@ -18,12 +18,12 @@ pub record WholeLines (given lines : List ℕ) : Type 0 where
   pub no_end : All (λ b. b ≢ 10) part
   pub whole : EndsLine lines
 
--- After a read fault out holds a front of the answer to the whole lines that the source gave.
+-- After a read fault out holds a prefix of the answer to the whole lines that the source gave.
 abbrev pub HoldsTaken : List (String Global) → List ℕ → Option (List ℕ) → Option (List ℕ) → Type 0
 HoldsTaken words given before now =
     (lines : List ℕ) (s : Status) (o e : List ℕ) → WholeLines given lines → Answers words lines s o e → AppendsPrefix before now o
 
--- What out holds of the answer to all bytes, of which the source gave these: after a write fault a front that is not the whole, after want of memory a front.
+-- What out holds of the answer to all bytes, of which the source gave these: after a write fault a proper prefix, if memory ran out a prefix.
 abbrev pub CutsOut : Status → List (String Global) → List ℕ → List ℕ → Option (List ℕ) → Option (List ℕ) → Type 0
 CutsOut statuses.Read words bytes given before now = HoldsTaken words given before now
 CutsOut statuses.Write words bytes given before now = (s : Status) (o e : List ℕ) → Answers words bytes s o e → AppendsProperPrefix before now o

@@ -2,7 +2,7 @@
 use Rattle.tdcc_base.specs.declared.status.Status.{Status}
 use Rattle.tdcc_base.specs.declared.status.Status.TheVariants as statuses
 
--- neither a fault nor want of memory cut the call short
+-- neither a fault nor a lack of memory cut the call short
 abbrev pub IsSettled : Status → Type 0
 IsSettled statuses.Read = ⊥
 IsSettled statuses.Write = ⊥

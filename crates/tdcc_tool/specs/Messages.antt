@@ -15,7 +15,7 @@ message text = codes "tdcc: " ++ text ++ 10 ∷ []
 abbrev pub usage_line : List ℕ
 usage_line = message (codes "usage")
 
--- what is said of the fault of a program text; of want of memory nothing is said
+-- what is said of the fault of a program text; of out of memory nothing is said
 abbrev pub program_fault_text : ReadFault → List ℕ
 program_fault_text reading.TextTooLong = codes "text over 65536 bytes"
 program_fault_text (reading.Lex offset) = codes "bad byte at offset " ++ decimal offset
@@ -48,7 +48,7 @@ abbrev pub strata_line : CoreProgram → ℕ → ℕ → ℕ → List ℕ
 strata_line p guard told node =
     message (codes "program: not stratified, " ++ cell_name (slice_get p.cells guard) ++ codes " guards " ++ cell_name (slice_get p.cells told) ++ codes " at node " ++ decimal node)
 
--- what is said of the fault of a line; of want of memory nothing is said
+-- what is said of the fault of a line; of out of memory nothing is said
 abbrev pub fault_text : LineFault → List ℕ
 fault_text (BadToken offset) = codes "bad token at offset " ++ decimal offset
 fault_text (UnknownName offset) = codes "unknown name at offset " ++ decimal offset

@@ -46,7 +46,7 @@ pub record Goes (before after : Course) (line : List ℕ) : Type 0 where
   pub given : GivesInput before.book.program line input
   pub closes : Closes before after input
 
--- the end says something of the run, and not want of memory
+-- the end says something of the run, and not that memory ran out
 abbrev pub Says : End → Type 0
 Says (ends.Line fault) = fault ≢ Memory
 Says _ = Unit {0}

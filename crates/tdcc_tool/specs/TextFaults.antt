@@ -9,7 +9,7 @@ use Rattle.tdcc_reader.specs.Texts.{ReadsAs}
 use Rattle.derived_forms.specs.declared.fault.ExpandFault.TheVariants as sizes
 use Rattle.derived_forms.specs.Refusals as expansion
 
--- the text has the fault; want of memory is none
+-- the text has the fault; out of memory is none
 pub data HasFault (text : List ℕ) : ReadFault → Type 0 where
   misread : (fault : ReadFault) → fault ≢ Memory → Refuses Program text fault → HasFault text fault
   many_nodes : (s : SurfaceProgram) → ReadsAs Program text s → expansion.Refuses s sizes.TooManyNodes → HasFault text TooManyNodes

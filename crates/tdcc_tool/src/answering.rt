@@ -30,7 +30,7 @@ fn answer_lines<S: Source>(
     ensures answer { IfOk result (λ a. IfSome (waiting S.left lines.old) (λ bytes. AnswersTo task bytes a.status a.out.items a.err.items)) }
     ensures ended { IfOk result (λ a. IsRun task → a.status ≡ Status.Ok → OnSome (waiting S.left lines.old) (S.left (source_of lines.new) ≡ Some [])) }
     ensures command_end { IfOk result (λ a. IsCommandEnd a.status) }
-    ensures later { S.faults (source_of lines.old) ≤ S.faults (source_of lines.new) }
+    ensures faults_only_rise { S.faults (source_of lines.old) ≤ S.faults (source_of lines.new) }
     ensures read { IsErrOf result Stop.Read → Rose (S.faults (source_of lines.old)) (S.faults (source_of lines.new)) }
     ensures steady { StaysSteady (S.steady (source_of lines.old)) (S.steady (source_of lines.new)) (IsErrOf result Stop.Read) }
 {
@@ -76,7 +76,7 @@ pub fn answer_command<S: Source>(
     ensures answer { IfOk result (λ a. IfSome (S.left source.old) (λ bytes. AnswersBy command bytes a.status a.out.items a.err.items)) }
     ensures ended { IfOk result (λ a. ReadsTrace command → a.status ≡ Status.Ok → OnSome (S.left source.old) (S.left source.new ≡ Some [])) }
     ensures generated { IsGenerated command → source.new ≡ source.old }
-    ensures made { (bytes : List ℕ) → IsGenerated command → IfOk result (λ a. AnswersBy command bytes a.status a.out.items a.err.items) }
+    ensures generates { (bytes : List ℕ) → IsGenerated command → IfOk result (λ a. AnswersBy command bytes a.status a.out.items a.err.items) }
     ensures unread { IsGenerated command → IsErrOf result Stop.Read → ⊥ }
     ensures command_end { IfOk result (λ a. IsCommandEnd a.status) }
     ensures read { IsErrOf result Stop.Read → Rose (S.faults source.old) (S.faults source.new) }

@@ -53,7 +53,7 @@ fn run_trace<S: Source>(
         RunAnswer start.book.program start.writing start.limits (lines_of trace) a.status a.out.items a.err.items)) }
     ensures ended { IfOk result (λ a. a.status ≡ Status.Ok → OnSome (waiting S.left lines.old) (S.left (source_of lines.new) ≡ Some [])) }
     ensures command_end { IfOk result (λ a. IsCommandEnd a.status) }
-    ensures later { S.faults (source_of lines.old) ≤ S.faults (source_of lines.new) }
+    ensures faults_only_rise { S.faults (source_of lines.old) ≤ S.faults (source_of lines.new) }
     ensures read { IsErrOf result Stop.Read → Rose (S.faults (source_of lines.old)) (S.faults (source_of lines.new)) }
     ensures steady { StaysSteady (S.steady (source_of lines.old)) (S.steady (source_of lines.new)) (IsErrOf result Stop.Read) }
 {
@@ -93,7 +93,7 @@ pub fn run_program<S: Source>(
         ProgramAnswer program writing limits (lines_of trace) a.status a.out.items a.err.items)) }
     ensures ended { IfOk result (λ a. a.status ≡ Status.Ok → OnSome (waiting S.left lines.old) (S.left (source_of lines.new) ≡ Some [])) }
     ensures command_end { IfOk result (λ a. IsCommandEnd a.status) }
-    ensures later { S.faults (source_of lines.old) ≤ S.faults (source_of lines.new) }
+    ensures faults_only_rise { S.faults (source_of lines.old) ≤ S.faults (source_of lines.new) }
     ensures read { IsErrOf result Stop.Read → Rose (S.faults (source_of lines.old)) (S.faults (source_of lines.new)) }
     ensures steady { StaysSteady (S.steady (source_of lines.old)) (S.steady (source_of lines.new)) (IsErrOf result Stop.Read) }
 {

@@ -15,7 +15,7 @@ use trace_text::write_store;
 /// How many of so many declared cells the store tells something of.
 fn told_of(store: &Store, declared: u32) -> u64
     ensures told { result ≡ length (filter (is_told store.now) (range_with_len 0 declared)) }
-    ensures few { result ≤ declared }
+    ensures bounded { result ≤ declared }
 {
     let mut told = 0;
     for cell in 0..declared {

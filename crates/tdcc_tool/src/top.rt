@@ -44,14 +44,14 @@ pub fn tdcc<R: Threads + Sync, S: Source, K: Sink, E: Sink, G: Gate>(
         × Appends (K.written out.old) (K.written out.new) o
         × WritesUntilFault (E.written err.old) (E.written err.new) (E.faults err.old) (E.faults err.new) e) }
 
-    // What a fault or want of memory leaves.
+    // What a fault, or memory that ran out, leaves.
     ensures cut_out { (bytes given : List ℕ) → S.left source.old ≡ Some bytes → Consumes (S.left source.old) (S.left source.new) given →
         CutsOut result words.now bytes given (K.written out.old) (K.written out.new) }
     ensures own_line { IfSome (own_line result) (λ line. WritesUntilFault (E.written err.old) (E.written err.new) (E.faults err.old) (E.faults err.new) line) }
     ensures read { result ≡ Status.Read → Rose (S.faults source.old) (S.faults source.new) }
     ensures write { result ≡ Status.Write → Rose (K.faults out.old) (K.faults out.new) }
 
-    // Where a run goes to its end: nothing but a fault or want of memory keeps it from that, and devices
+    // Where a run goes to its end: nothing but a fault or a lack of memory keeps it from that, and devices
     // that are sure not to fail do not.
     ensures whole { IfSome (S.left source.old) (λ bytes. IsRunnable words.now bytes →
         EndsWhole result (Rose (S.faults source.old) (S.faults source.new)) (Rose (K.faults out.old) (K.faults out.new))) }

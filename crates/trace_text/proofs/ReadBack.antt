@@ -33,7 +33,7 @@ use Rattle.trace_text.proofs.TextDenotations.{SayTexts, SayTexts-append, line_sa
 use Rattle.trace_text.proofs.ValueTokens.{Entails, value_tokens, value_held, value_covered}
 use Rattle.trace_text.proofs.Written.{spaced-append, spaced-join}
 
--- a front of a list has the elements of the list
+-- a prefix of a list has the elements of the list
 front_at : {X : Type 0} (n i : ℕ) (xs : List X) (x : X) → slice_get (take n xs) i ≡ Some x → (i < n) × (slice_get xs i ≡ Some x)
 front_at zero i xs x e = absurd (cc)
 front_at (suc n) i [] x e = absurd (cc)

@@ -72,7 +72,7 @@ one_fault p all f g a b x y =
     let same : x.piece ≡ y.piece = first_one p f g a b x.before y.before x.piece y.piece x.after y.after x.tokens y.tokens (sym x.parts ∙ y.parts) x.accepted y.accepted x.refused y.refused in
     one_refusal p y.piece f g a b (subst (λ (z : Field). RefusesField p z f) same x.refused) y.refused
 
--- what a fault that is neither of the line as a whole nor want of memory says of a line
+-- what a fault that is neither of the line as a whole nor out of memory says of a line
 within : (p : CoreProgram) (line : List ℕ) (f : LineFault) → f ≢ Memory → RefusesLine p line f → length line ≤ 32768 → IsFirstRefused p (fields line) f
 within p line (BadToken o) other r short = r.1
 within p line (UnknownName o) other r short = r.1

@@ -12,11 +12,11 @@ use Rattle.trace_text.specs.declared.fault.LineFault.TheVariants.{Memory}
 use Rattle.trace_text.specs.Inputs.{GivesInput}
 use Rattle.trace_text.specs.Refusals.{RefusesLine}
 
--- the line gives an input, or it has a fault that is not want of memory
+-- the line gives an input, or it has a fault other than out of memory
 abbrev pub IsRead : CoreProgram → List ℕ → Type 0
 IsRead p line = ((i : StoreMap) × GivesInput p line i) ⊎ ((f : LineFault) × (f ≢ Memory) × RefusesLine p line f)
 
--- the line gives one input, or it has one fault, and not both; want of memory aside
+-- the line gives one input, or it has one fault, and not both; out of memory aside
 pub record HasOneReading (p : CoreProgram) (line : List ℕ) : Type 0 where
   pub read : IsRead p line
   pub one_input : (i j : StoreMap) → GivesInput p line i → GivesInput p line j → i ≡ j

@@ -11,7 +11,7 @@ use Rattle.trace_text.specs.Fields.{Field, fields}
 use Rattle.trace_text.specs.Inputs.{declared_cell, name_in, text_fits, NamesCell, DenoteAll}
 
 -- The piece has the fault, at its own place: it is no text of a token, its name is that of no declared cell, or its token does not fit the cell of that name.
--- Want of memory says nothing of a piece.
+-- Out of memory says nothing of a piece.
 abbrev pub RefusesField : CoreProgram → Field → LineFault → Type 0
 RefusesField p piece (BadToken offset) = (offset ≡ piece.offset) × ((w : Written) → IsTokenText piece.bytes w → ⊥)
 RefusesField p piece (UnknownName offset) = (offset ≡ piece.offset) × (w : Written) × IsTokenText piece.bytes w × (declared_cell p (name_in piece.bytes w) ≡ None)
@@ -29,12 +29,12 @@ pub record IsFirstRefused (p : CoreProgram) (all : List Field) (fault : LineFaul
   pub accepted : DenoteAll p before tokens
   pub refused : RefusesField p piece fault
 
--- the fault is that of the first piece that is refused; want of memory says nothing of the fields
+-- the fault is that of the first piece that is refused; out of memory says nothing of the fields
 abbrev pub RefusesFields : CoreProgram → List Field → LineFault → Type 0
 RefusesFields p all Memory = Unit {0}
 RefusesFields p all fault = IsFirstRefused p all fault
 
--- The line has the fault: it is over the limit of bytes, or it is within it and its first refused piece has the fault. Want of memory says no more than that the line is within the limit.
+-- The line has the fault: it is over the limit of bytes, or it is within it and its first refused piece has the fault. Out of memory says no more than that the line is within the limit.
 abbrev pub RefusesLine : CoreProgram → List ℕ → LineFault → Type 0
 RefusesLine p line LineTooLong = 32768 < length line
 RefusesLine p line fault = (length line ≤ 32768) × RefusesFields p (fields line) fault

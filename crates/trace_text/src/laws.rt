@@ -10,7 +10,7 @@ ghost use Rattle.trace_text.specs.Laws.{HasOneReading, HasOwnNames, IsDeclaredPa
 ghost use Rattle.trace_text.specs.StoreLines.{store_line};
 
 /// A line gives exactly one input or has exactly one fault, and not both, so that what `read_input`
-/// answers is the only answer, want of memory aside.
+/// answers is the only answer, out of memory aside.
 pub fn reading_law()
     ensures { (p : CoreProgram) (line : List ℕ) → HasOneReading p line }
 {}

@@ -18,7 +18,7 @@ use trace_text::{generate, read_input, write_store};
 fn inputs_of(alloc: Global, program: &Program, lines: &[&str]) -> Result<Vec<Store>, Fail>
     requires { length lines.now ≤ 65536 }
     ensures inputs { IfOk result (λ ins. All (IsInput program.now) ins.items) }
-    ensures few { IfOk result (λ ins. length ins.items ≤ 65536) }
+    ensures bounded { IfOk result (λ ins. length ins.items ≤ 65536) }
 {
     let mut ins = Vec::new(alloc);
     for line in lines {

@@ -7,9 +7,9 @@ use Rattle.core_reader.specs.Readings.{AcceptsCore, IsCoreOf}
 use Rattle.core_reader.proofs.CorePrograms.{forms_many, cells_many, surface_core, made_core, core_is_program}
 use Rattle.core_reader.proofs.reader.read_core.Goals as goal
 
-pub returns-in_err-parts-clause-only : goal.returns-in_err-parts-clause-only
-returns-in_err-parts-clause-only c = λ phrase accepts.
-    let is = c.in_err-parts.ensures.only phrase accepts.accepts in
+pub returns-in_err-parts-clause-complete : goal.returns-in_err-parts-clause-complete
+returns-in_err-parts-clause-complete c = λ phrase accepts.
+    let is = c.in_err-parts.ensures.complete phrase accepts.accepts in
     err_to c.from_residual.result (IsCoreOf phrase) _ (λ e. e ≡ fault.Memory) c.from_residual.ensures.1 (λ e h. h ∙ is)
 
 pub returns-then-len-gt-MAX_NODES-clause-fault : goal.returns-then-len-gt-MAX_NODES-clause-fault
@@ -19,9 +19,9 @@ returns-then-len-gt-MAX_NODES-clause-fault c =
     let h = c.if-len-gt-MAX_NODES.true in
     (phrase, accepts, omega (arith, c.len.ensures))
 
-pub returns-then-len-gt-MAX_NODES-clause-only : goal.returns-then-len-gt-MAX_NODES-clause-only
-returns-then-len-gt-MAX_NODES-clause-only c = λ phrase accepts.
-    let many = forms_many phrase (surface_of c.in_ok-parts.parts) (c.in_ok-parts.ensures.only phrase accepts.accepts) in
+pub returns-then-len-gt-MAX_NODES-clause-complete : goal.returns-then-len-gt-MAX_NODES-clause-complete
+returns-then-len-gt-MAX_NODES-clause-complete c = λ phrase accepts.
+    let many = forms_many phrase (surface_of c.in_ok-parts.parts) (c.in_ok-parts.ensures.complete phrase accepts.accepts) in
     let few = accepts.few_nodes in
     let h = c.if-len-gt-MAX_NODES.true in
     absurd (omega (arith, c.len.ensures))
@@ -65,7 +65,7 @@ returns-clause-found c =
       subst (IsCoreOf phrase) (sym c.in-Some.ensures.same) (made_core c.args.text.now phrase (surface_of c.in_ok-parts.parts) c.in_ok-nodes.nodes.items accepts is c.in_ok-nodes.ensures),
     )
 
-pub returns-clause-only : goal.returns-clause-only
-returns-clause-only c = λ phrase accepts.
+pub returns-clause-complete : goal.returns-clause-complete
+returns-clause-complete c = λ phrase accepts.
     subst (IsCoreOf phrase) (sym c.in-Some.ensures.same)
-    (made_core c.args.text.now phrase (surface_of c.in_ok-parts.parts) c.in_ok-nodes.nodes.items accepts.accepts (c.in_ok-parts.ensures.only phrase accepts.accepts) c.in_ok-nodes.ensures)
+    (made_core c.args.text.now phrase (surface_of c.in_ok-parts.parts) c.in_ok-nodes.nodes.items accepts.accepts (c.in_ok-parts.ensures.complete phrase accepts.accepts) c.in_ok-nodes.ensures)

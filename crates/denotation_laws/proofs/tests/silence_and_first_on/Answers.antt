@@ -8,6 +8,6 @@ pub returns-clause-inputs : goal.returns-clause-inputs
 returns-clause-inputs c =
     subst (All (IsInput c.args.program.now)) (sym c.in_ok-push.ensures.items) (All-push (IsInput c.args.program.now) c.in_ok-ins.ins.items c.in_ok-on.on c.in_ok-ins.ensures.inputs c.in_ok-on.ensures)
 
-pub returns-clause-few : goal.returns-clause-few
-returns-clause-few c =
-    omega (arith, ap (λ (z : List StoreMap). length z) c.in_ok-push.ensures.items, length-append c.in_ok-ins.ins.items (c.in_ok-on.on ∷ []), c.in_ok-ins.ensures.few)
+pub returns-clause-bounded : goal.returns-clause-bounded
+returns-clause-bounded c =
+    omega (arith, ap (λ (z : List StoreMap). length z) c.in_ok-push.ensures.items, length-append c.in_ok-ins.ins.items (c.in_ok-on.on ∷ []), c.in_ok-ins.ensures.bounded)

@@ -16,8 +16,8 @@ returns-then-forms-gt-MAX_NODES-clause-fault c =
     let is = c.forms-forms.ensures.surface in
     (its_sketch c.args.surface.now is, drawn c.args.surface.now is, sketch_large c.args.surface.now is (let many = c.if-forms-gt-MAX_NODES.true in let same = ap length c.forms-forms.ensures.all in omega arith))
 
-pub returns-then-forms-gt-MAX_NODES-clause-only : goal.returns-then-forms-gt-MAX_NODES-clause-only
-returns-then-forms-gt-MAX_NODES-clause-only c = λ d sketch few cells.
+pub returns-then-forms-gt-MAX_NODES-clause-complete : goal.returns-then-forms-gt-MAX_NODES-clause-complete
+returns-then-forms-gt-MAX_NODES-clause-complete c = λ d sketch few cells.
     let is = c.forms-forms.ensures.surface in
     let same = ap size (c.sizes_law.ensures.one c.args.surface.now d (its_sketch c.args.surface.now is) sketch (drawn c.args.surface.now is)) in
     let large = sketch_large c.args.surface.now is (let many = c.if-forms-gt-MAX_NODES.true in let e = ap length c.forms-forms.ensures.all in omega arith) in

@@ -20,8 +20,8 @@ returns-clause-parted c = parted
 pub returns-clause-lines : goal.returns-clause-lines
 returns-clause-lines c = trace_given
 
-pub returns-clause-few : goal.returns-clause-few
-returns-clause-few c = few
+pub returns-clause-bounded : goal.returns-clause-bounded
+returns-clause-bounded c = few
 
 pub returns-clause-few_ran : goal.returns-clause-few_ran
 returns-clause-few_ran c = few_ran

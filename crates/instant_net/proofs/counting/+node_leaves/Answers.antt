@@ -34,8 +34,8 @@ returns-in-Par-clause-count t c =
     let r = c.node_leaves-in-Par.ensures.count in
     omega arith
 
-pub returns-in-Par-clause-few : goal.returns-in-Par-clause-few
-returns-in-Par-clause-few t c =
+pub returns-in-Par-clause-bounded : goal.returns-in-Par-clause-bounded
+returns-in-Par-clause-bounded t c =
     let found = node-found c.args.program.now c.nodes.result.now c.args.node c.index-nodes-node.result c.nodes.ensures.all c.requires c.index-nodes-node.is in
     let whole = count-par c.args.program.now c.nodes.ensures.program c.args.node c.in-Par.left c.in-Par.right (found ∙ ap Some c.in-Par.is) in
     let few = few_leaves c.args.program.now c.nodes.ensures.program c.args.node c.requires in

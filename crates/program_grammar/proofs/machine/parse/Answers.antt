@@ -4,11 +4,11 @@ use Rattle.program_grammar.proofs.machine.parse.Goals as goal
 pub returns-in-Ok-Ok-clause-steps : goal.returns-in-Ok-Ok-clause-steps
 returns-in-Ok-Ok-clause-steps c = let read = rw c.in-Ok-Ok.field-0-is at c.in-Ok-Ok.ensures in λ ts e. ends_reading _ ts _ _ e read.0 read.1
 
-pub returns-in-Ok-Ok-clause-only : goal.returns-in-Ok-Ok-clause-only
-returns-in-Ok-Ok-clause-only c = let read = rw c.in-Ok-Ok.field-0-is at c.in-Ok-Ok.ensures in λ ts p e s. spelled_steps _ ts _ p _ e s read.1
+pub returns-in-Ok-Ok-clause-complete : goal.returns-in-Ok-Ok-clause-complete
+returns-in-Ok-Ok-clause-complete c = let read = rw c.in-Ok-Ok.field-0-is at c.in-Ok-Ok.ensures in λ ts p e s. spelled_steps _ ts _ p _ e s read.1
 
 pub returns-in-Ok-Err-clause-fault : goal.returns-in-Ok-Err-clause-fault
 returns-in-Ok-Err-clause-fault c = let stops = rw c.in-Ok-Err.field-0-is at c.in-Ok-Err.ensures in λ ts e. stops_at_fault _ ts _ _ e stops
 
-pub returns-in-Ok-Err-clause-only : goal.returns-in-Ok-Err-clause-only
-returns-in-Ok-Err-clause-only c = let stops = rw c.in-Ok-Err.field-0-is at c.in-Ok-Err.ensures in λ ts p e s. absurd ((stops_at_fault _ ts _ _ e stops).wrong (p, s))
+pub returns-in-Ok-Err-clause-complete : goal.returns-in-Ok-Err-clause-complete
+returns-in-Ok-Err-clause-complete c = let stops = rw c.in-Ok-Err.field-0-is at c.in-Ok-Err.ensures in λ ts p e s. absurd ((stops_at_fault _ ts _ _ e stops).wrong (p, s))

@@ -5,7 +5,7 @@ pub loop-told-preserved : goal.loop-told-preserved
 loop-told-preserved c = record {
   words = c.tell_due-told.ensures.words;
   way = λ input output strat out h. c.tell_due-told.ensures.way input output strat out (c.loop-told.invariant.way input output strat out h);
-  calm = λ e. (c.tell_due-told.ensures.net, c.tell_due-told.ensures.calm e);
+  calm = λ e. (c.tell_due-told.ensures.net, c.tell_due-told.ensures.at_rest e);
 }
 
 pub returns-clause-settled : goal.returns-clause-settled

@@ -18,7 +18,7 @@ loop-leaf-preserved c =
           (pass-skip c.args.net.now c.args.stratum c.args.words.now c.loop-leaf.words c.loop-leaf.leaf c.loop-leaf.told c.loop-leaf.invariant c.is_due.result c.is_due.ensures w.if-is_due.false))
     ]
 
-pub returns-clause-calm : goal.returns-clause-calm
-returns-clause-calm c =
+pub returns-clause-at_rest : goal.returns-clause-at_rest
+returns-clause-at_rest c =
     pass-calm c.args.net.now c.args.stratum c.args.words.now c.loop-leaf.words c.loop-leaf.leaf c.loop-leaf.told c.loop-leaf.invariant
     (let n = c.leaves-leaf-end.ensures.count in let le = c.loop-leaf-test.false in omega arith)

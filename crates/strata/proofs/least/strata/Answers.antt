@@ -29,8 +29,8 @@ least_table-requires-clause-some c =
     let are = rows_are c.args.program.now c.cells-cells.result.now c.nodes.result.now c.deref.result.now c.in_ok-rows.rows.items c.deref-2.result.now c.cells-cells.ensures.all c.nodes.ensures.all (c.deref.ensures.value ∙ c.in_ok-arcs.ensures) c.deref-2.ensures.value c.in_ok-rows.ensures in
     subst HasTable (sym (c.deref-3.ensures.value ∙ c.in_ok-arcs.ensures)) (has_table c.args.program.now c.cells-cells.ensures.program c.deref-2.result.now are (sym c.in_default.is ∙ c.first_case.ensures))
 
-pub returns-clause-only : goal.returns-clause-only
-returns-clause-only c =
+pub returns-clause-complete : goal.returns-clause-complete
+returns-clause-complete c =
     let are = rows_are c.args.program.now c.cells-cells.result.now c.nodes.result.now c.deref.result.now c.in_ok-rows.rows.items c.deref-2.result.now c.cells-cells.ensures.all c.nodes.ensures.all (c.deref.ensures.value ∙ c.in_ok-arcs.ensures) c.deref-2.ensures.value c.in_ok-rows.ensures in
     no_first c.args.program.now c.cells-cells.ensures.program c.deref-2.result.now are (sym c.in_default.is ∙ c.first_case.ensures)
 

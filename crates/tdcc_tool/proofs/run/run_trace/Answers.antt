@@ -45,7 +45,7 @@ lines-preserved g c =
       same = c.in-Ok-Line.ensures.same_reference ∙ c.lines.invariant.same;
       ready = c.in-Ok-Line.ensures.ready;
       going_on = c.in-Ok-Line.ensures.going_on;
-      later = omega (arith, c.in-Ok-Line.ensures.later);
+      later = omega (arith, c.in-Ok-Line.ensures.faults_only_rise);
       steady = λ h. ((c.in-Ok-Line.ensures.steady c.lines.invariant.going_on) (c.lines.invariant.steady h)).0;
       so_far = goes_on (settings_of c.args.start) (waiting g.S.Source.left c.args.lines.now) (waiting g.S.Source.left c.lines.lines) (waiting g.S.Source.left c.read_line.new.self) (line_read c.read_line.new.self) c.lines.course c.run_line.new.course c.lines.invariant.so_far h
           (subst (λ (l : List ℕ). Goes c.lines.course c.run_line.new.course l) c.line.ensures k);

@@ -19,5 +19,5 @@ loop-cell-preserved c =
     told ∙ ap (λ (b : Bool). c.loop-cell.told + cond b 1 0) is ∙ ap (λ (k : ℕ). k + cond (is_told c.args.store.now c.loop-cell.cell) 1 0) c.loop-cell.invariant
     ∙ sym (filtered-more (is_told c.args.store.now) c.loop-cell.cell)
 
-pub returns-clause-few : goal.returns-clause-few
-returns-clause-few c = let few = filtered-few (is_told c.args.store.now) c.loop-cell.cell in let so = c.loop-cell.invariant in omega arith
+pub returns-clause-bounded : goal.returns-clause-bounded
+returns-clause-bounded c = let few = filtered-few (is_told c.args.store.now) c.loop-cell.cell in let so = c.loop-cell.invariant in omega arith

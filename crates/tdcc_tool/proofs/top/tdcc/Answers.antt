@@ -33,7 +33,7 @@ returns-in-Ok-write_all-clause-whole g c =
 
 pub returns-in-Ok-write_all-clause-generated_whole : goal.returns-in-Ok-write_all-clause-generated_whole
 returns-in-Ok-write_all-clause-generated_whole g c =
-    generated_whole c.args.words.now c.in-Some.command c.in-Ok.answer.status c.in-Ok.answer.out.items c.in-Ok.answer.err.items _ _ c.in-Some.ensures c.in-Ok.ensures.made
+    generated_whole c.args.words.now c.in-Some.command c.in-Ok.answer.status c.in-Ok.answer.out.items c.in-Ok.answer.err.items _ _ c.in-Some.ensures c.in-Ok.ensures.generates
 
 pub returns-in-Ok-clause-roomy : goal.returns-in-Ok-clause-roomy
 returns-in-Ok-clause-roomy g c bytes s o e known answer room is =

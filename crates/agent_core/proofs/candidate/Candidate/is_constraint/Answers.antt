@@ -21,4 +21,4 @@ loop-cell-preserved c =
 pub returns : goal.returns
 returns c =
     ask_ends (core_of c.args.self) (locals_of c.args.around.now) c.list-cell-items.result.now c.loop-cell.cell-index c.loop-cell.invariant c.loop-cell-test.false c.args.ask.now
-    c.list-cell-items.ensures.all c.list-cell-items.ensures.some c.list-cell-items.ensures.few
+    c.list-cell-items.ensures.all c.list-cell-items.ensures.some c.list-cell-items.ensures.bounded

@@ -96,7 +96,7 @@ lines-preserved g c =
       front = subst IsTextFront (sym pushed) goes.1;
       few = omega (arith, size, c.if-len-ge-TEXT_LIMIT.false, c.len-in-Feed.ensures, c.append_line.new.into.ok.0);
       stays = λ e. let before = c.lines.invariant.stays e in let then = c.append_line.ensures.stays before.0 in (then.0, then.1 ∙ before.1);
-      later = omega (arith, c.append_line.ensures.later, c.lines.invariant.later);
+      later = omega (arith, c.append_line.ensures.faults_only_rise, c.lines.invariant.later);
       steady = λ s. (c.append_line.ensures.steady (c.lines.invariant.steady s)).0;
       stop = c.lines.invariant.stop;
     }

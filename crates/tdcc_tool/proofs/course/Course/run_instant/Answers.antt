@@ -12,7 +12,7 @@ returns-in-Err-NetFull c =
     over-net c.args.self.now c.args.input c.requires.room _ (x.leaves-is ∙ x.ensures.counted x.leaves full) (subst (λ (n : ℕ). c.args.self.now.limits.net < n) (sym x.leaves-is) (x.ensures.full x.leaves full))
 
 pub overflow_add-spent : goal.overflow_add-spent
-overflow_add-spent c = let within = c.args.self.now.within in let fuel = within.0 in let fits = within.1 in let few = c.ran.ensures.few in omega arith
+overflow_add-spent c = let within = c.args.self.now.within in let fuel = within.0 in let fits = within.1 in let few = c.ran.ensures.bounded in omega arith
 
 pub returns-then-spent-from : goal.returns-then-spent-from
 returns-then-spent-from c =
