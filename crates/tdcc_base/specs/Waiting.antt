@@ -32,6 +32,10 @@ text_read lines = lines.buffers.text.items
 abbrev pub line_read : {S : Type 0} → Lines S Buffers → List ℕ
 line_read lines = lines.buffers.line.items
 
+-- how many bytes a line may have
+abbrev pub limit_of : {S : Type 0} → Lines S Buffers → ℕ
+limit_of lines = lines.buffers.limit
+
 -- the stop that was answered
 abbrev pub stop_of : {S : Type 0} → Lines S Buffers → Option ReadStop
 stop_of lines = lines.buffers.stop

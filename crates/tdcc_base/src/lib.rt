@@ -6,6 +6,7 @@ mod adapters;
 mod buffers;
 mod calls;
 mod gate;
+mod limits;
 mod lines;
 mod memory_sink;
 mod memory_source;
@@ -19,6 +20,7 @@ mod writing;
 
 pub use adapters::{StdSink, StdSource};
 pub use gate::{Acted, Gate, OpenGate};
+pub use limits::{LONGEST_LINE, LONGEST_TEXT, READ_SIZE, limits_law};
 pub use lines::Lines;
 pub use memory_sink::MemSink;
 pub use memory_source::MemSource;

@@ -1,9 +1,11 @@
 ghost use Rattle.std.specs.Prelude.{◌≡◌, ◌≤◌, Ok, Err, IfOk, IfSome, IsNone, IsErrOf, length};
 ghost use Rattle.std.specs.Result.{result_err};
 ghost use Rattle.tdcc_base.specs.Causes.{Rose};
+ghost use Rattle.tdcc_base.specs.Limits.{longest_text, longest_line};
 ghost use Rattle.tdcc_base.specs.Promises.{StaysSteady};
 
 use crate::buffers::Buffers;
+use crate::limits::LONGEST_LINE;
 use crate::outside::{Memory, Source};
 use crate::stops::{LineEnd, ReadStop, TextEnd};
 use std::alloc::Global;
@@ -12,7 +14,7 @@ use std::alloc::Global;
 ///
 /// The text ends before the first line that is `%%`, or `%%` and a carriage return. It has at most
 /// 65,536 bytes, the line feed before the mark included. A line has at most 32,768 bytes without its
-/// line feed. A last line without a line feed counts where it is not empty.
+/// line feed, or as many as `with_limit` was told. A last line without a line feed counts where it is not empty.
 ///
 /// Nothing is read beyond what the next answer needs and 4,096 bytes, and nothing after the source
 /// has answered that it is at its end.
@@ -33,7 +35,7 @@ impl<'a, S, B: Drop> Drop for Lines<'a, S, B> {
 }
 
 impl<'a, S: Source> Lines<'a, S> {
-    ghost use Rattle.tdcc_base.specs.Waiting.{waiting, source_of, text_read, line_read, stop_of, reference_of, Opens, IsFirst, LinesReady, AtEnd, HasNotEnded, HoldsNothingBack, ReadsNoMoreAfterEnd};
+    ghost use Rattle.tdcc_base.specs.Waiting.{waiting, source_of, text_read, line_read, limit_of, stop_of, reference_of, Opens, IsFirst, LinesReady, AtEnd, HasNotEnded, HoldsNothingBack, ReadsNoMoreAfterEnd};
     ghost use Rattle.tdcc_base.specs.Lines.{ReadsLine};
     ghost use Rattle.tdcc_base.specs.Texts.{ReadsText};
 
@@ -44,8 +46,26 @@ impl<'a, S: Source> Lines<'a, S> {
     pub fn new(alloc: Global, source: &'a mut S) -> Result<Lines<'a, S>, Memory>
         ensures same_reference { IfOk result (λ lines. reference_of lines ≡ source.entry.ghost_name) }
         ensures opens { IfOk result (λ lines. Opens S.left source.old lines) }
+        ensures limit { IfOk result (λ lines. limit_of lines ≡ longest_line) }
     {
-        let buffers = Buffers::new(alloc)?;
+        Lines::with_limit(alloc, source, LONGEST_LINE)
+    }
+
+    /// Takes every buffer that the reading needs, where a line may have as many bytes as the limit says.
+    /// It reads nothing.
+    ///
+    /// # Errors
+    /// `Memory` where there is none for the buffers.
+    pub fn with_limit(
+        alloc: Global,
+        source: &'a mut S,
+        limit: usize,
+    ) -> Result<Lines<'a, S>, Memory>
+        ensures same_reference { IfOk result (λ lines. reference_of lines ≡ source.entry.ghost_name) }
+        ensures opens { IfOk result (λ lines. Opens S.left source.old lines) }
+        ensures limit { IfOk result (λ lines. limit_of lines ≡ limit) }
+    {
+        let buffers = Buffers::new(alloc, limit)?;
         Ok(Lines { source, buffers })
     }
 
@@ -57,8 +77,9 @@ impl<'a, S: Source> Lines<'a, S> {
     pub fn read_text(&mut self) -> Result<TextEnd, ReadStop>
         requires first { IsFirst S.left self.old }
         ensures same_reference { reference_of self.new ≡ reference_of self.old }
+        ensures limit { limit_of self.new ≡ limit_of self.old }
         ensures text { ReadsText (waiting S.left self.old) (waiting S.left self.new) (text_read self.new) result }
-        ensures short { IfOk result (λ _. length (text_read self.new) ≤ 65536) }
+        ensures short { IfOk result (λ _. length (text_read self.new) ≤ longest_text) }
         ensures ready { LinesReady S.left self.new }
         ensures stopped { stop_of self.new ≡ result_err result }
         ensures going_on { IfOk result (λ _. IsNone (stop_of self.new)) }
@@ -83,13 +104,15 @@ impl<'a, S: Source> Lines<'a, S> {
     /// Reads the next line.
     ///
     /// # Errors
-    /// `TooLong` where the line has more than 32,768 bytes, and `Read` where the source failed.
+    /// `TooLong` where the line has more bytes than its limit, and `Read` where the source failed.
     /// Each later call answers the same and makes no read.
     pub fn read_line(&mut self) -> Result<LineEnd, ReadStop>
         requires ready { LinesReady S.left self.old }
         ensures same_reference { reference_of self.new ≡ reference_of self.old }
-        ensures line { IsNone (stop_of self.old) → ReadsLine (waiting S.left self.old) (waiting S.left self.new) (line_read self.new) result }
-        ensures short { IfOk result (λ _. length (line_read self.new) ≤ 32768) }
+        ensures limit { limit_of self.new ≡ limit_of self.old }
+        ensures line { IsNone (stop_of self.old) →
+            ReadsLine (limit_of self.old) (waiting S.left self.old) (waiting S.left self.new) (line_read self.new) result }
+        ensures short { IfOk result (λ _. length (line_read self.new) ≤ limit_of self.old) }
         ensures text { text_read self.new ≡ text_read self.old }
         ensures ready { LinesReady S.left self.new }
 

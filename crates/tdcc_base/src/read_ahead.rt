@@ -2,8 +2,10 @@ ghost use Rattle.std.specs.Prelude.{◌≡◌, ◌<◌, ◌≤◌, false, IfOk, 
 ghost use Rattle.std.specs.Bool.{MatchBool};
 ghost use Rattle.std.specs.Io.KnownBytes.{Keeps, IsAtEnd};
 ghost use Rattle.tdcc_base.specs.Causes.{HasCause, Rose};
+ghost use Rattle.tdcc_base.specs.Limits.{read_size};
 ghost use Rattle.tdcc_base.specs.Promises.{StaysSteady};
 
+use crate::limits::READ_SIZE;
 use crate::outside::{Failed, Memory, Source};
 use crate::stops::ReadStop;
 use std::alloc::Global;
@@ -25,9 +27,9 @@ pub struct ReadAhead {
     from: usize,
     to: usize,
     ended: bool,
-    ghost sized: { vec_len chunk ≡ 4096 },
+    ghost sized: { vec_len chunk ≡ read_size },
     ghost ordered: { from ≤ to },
-    ghost within: { to ≤ 4096 },
+    ghost within: { to ≤ read_size },
 }
 
 impl ReadAhead {
@@ -36,7 +38,7 @@ impl ReadAhead {
     pub(crate) fn new(alloc: Global) -> Result<ReadAhead, Memory>
         ensures { IfOk result IsDrained }
     {
-        let chunk = vec![in alloc; 0; 4096]?;
+        let chunk = vec![in alloc; 0; READ_SIZE]?;
         Ok(ReadAhead {
             chunk,
             from: 0,

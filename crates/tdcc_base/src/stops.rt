@@ -19,7 +19,7 @@ pub enum LineEnd {
 /// Why a text or a line was not read.
 #[derive(Clone, Copy, Debug, PartialEq, Eq)]
 pub enum ReadStop {
-    /// The text is longer than 65,536 bytes, or the line than 32,768.
+    /// The text is longer than 65,536 bytes, or the line than its limit.
     TooLong,
     /// The source failed.
     Read,
