@@ -1,7 +1,7 @@
-ghost use Rattle.std.specs.Prelude.{◌≡◌, ◌≤◌, Ok, Err, Some, IfOk, IfSome, IsNone, IsErrOf, [], length, drop, vec_len, vec_capacity};
+ghost use Rattle.std.specs.Prelude.{◌≡◌, ◌<◌, ◌≤◌, Ok, Err, Some, IfOk, IfSome, IsNone, IsErrOf, [], length, drop, vec_len, vec_capacity};
 ghost use Rattle.std.specs.Result.{result_err};
-ghost use Rattle.tdcc_base.specs.Causes.{Rose};
-ghost use Rattle.tdcc_base.specs.Limits.{longest_text, room_for_text};
+ghost use Rattle.tdcc_base.specs.Causes.{HasReadCause, Rose};
+ghost use Rattle.tdcc_base.specs.Limits.{longest_text, read_size, room_for_text};
 ghost use Rattle.tdcc_base.specs.Promises.{StaysSteady};
 ghost use Rattle.tdcc_base.specs.Texts.{is_mark};
 
@@ -24,9 +24,10 @@ pub struct Buffers {
 }
 
 impl Buffers {
-    ghost use Rattle.tdcc_base.specs.Unread.{unread, IsReady, IsOver, IsDrained, StaysEnded};
+    ghost use Rattle.tdcc_base.specs.Unread.{pending, unread, IsReady, IsOver, IsDrained, StaysEnded};
     ghost use Rattle.tdcc_base.specs.Waiting.{IsUnused};
-    ghost use Rattle.tdcc_base.specs.Lines.{ReadsLine};
+    ghost use Rattle.tdcc_base.specs.Lines.{HasNoFeed, ReadsLine};
+    ghost use Rattle.tdcc_base.specs.Reads.{ReadsForLine, ReadsForText};
     ghost use Rattle.tdcc_base.specs.Texts.{ReadsText};
 
     /// Nothing read yet. A line may have as many bytes as the limit says.
@@ -73,6 +74,11 @@ impl Buffers {
         ensures read { IsNone self.old.stop → IsErrOf result ReadStop.Read → Rose (S.faults source.old) (S.faults source.new) }
         ensures steady { IsNone self.old.stop → StaysSteady (S.steady source.old) (S.steady source.new) (IsErrOf result ReadStop.Read) }
         ensures short { IfOk result (λ _. vec_len self.new.line ≤ self.old.limit) }
+        ensures reads { IsNone self.old.stop →
+            ReadsForLine S.read_gives self.old.limit self.new.line.items result self.old.ahead self.new.ahead source.old source.new }
+        ensures held { IsNone self.old.stop → ¬ HasNoFeed (pending self.old.ahead) → source.new ≡ source.old }
+        ensures bounded { IsNone self.old.stop → length (pending self.new.ahead) < read_size }
+        ensures cause { IsNone self.old.stop → HasReadCause (S.faults source.old) (S.faults source.new) result }
         ensures text { self.new.text ≡ self.old.text }
         ensures limit { self.new.limit ≡ self.old.limit }
     {
@@ -103,6 +109,9 @@ impl Buffers {
         ensures drained { IsErrOf result ReadStop.Read → IsDrained self.new.ahead }
         ensures stays { StaysEnded self.old.ahead self.new.ahead source.old source.new }
         ensures short { IfOk result (λ _. vec_len self.new.text ≤ longest_text) }
+        ensures reads { ReadsForText S.read_gives self.new.text.items result self.old.ahead self.new.ahead source.old source.new }
+        ensures bounded { length (pending self.new.ahead) < read_size }
+        ensures cause { HasReadCause (S.faults source.old) (S.faults source.new) result }
         ensures faults_only_rise { S.faults source.old ≤ S.faults source.new }
         ensures read { IsErrOf result ReadStop.Read → Rose (S.faults source.old) (S.faults source.new) }
         ensures steady { StaysSteady (S.steady source.old) (S.steady source.new) (IsErrOf result ReadStop.Read) }
@@ -124,6 +133,9 @@ impl Buffers {
         ensures drained { IsErrOf result ReadStop.Read → IsDrained self.new.ahead }
         ensures stays { StaysEnded self.old.ahead self.new.ahead source.old source.new }
         ensures short { IfOk result (λ _. vec_len self.new.text ≤ longest_text) }
+        ensures reads { ReadsForText S.read_gives self.new.text.items result self.old.ahead self.new.ahead source.old source.new }
+        ensures bounded { length (pending self.new.ahead) < read_size }
+        ensures cause { HasReadCause (S.faults source.old) (S.faults source.new) result }
         ensures faults_only_rise { S.faults source.old ≤ S.faults source.new }
         ensures read { IsErrOf result ReadStop.Read → Rose (S.faults source.old) (S.faults source.new) }
         ensures steady { StaysSteady (S.steady source.old) (S.steady source.new) (IsErrOf result ReadStop.Read) }

@@ -18,7 +18,7 @@ mod stops;
 mod tests;
 mod writing;
 
-pub use adapters::{StdSink, StdSource};
+pub use adapters::{Reader, StdSink, StdSource, Writer};
 pub use gate::{Acted, Gate, OpenGate};
 pub use limits::{LONGEST_LINE, LONGEST_TEXT, READ_SIZE, limits_law};
 pub use lines::Lines;

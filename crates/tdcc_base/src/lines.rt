@@ -1,7 +1,7 @@
-ghost use Rattle.std.specs.Prelude.{◌≡◌, ◌≤◌, Ok, Err, IfOk, IfSome, IsNone, IsErrOf, length};
+ghost use Rattle.std.specs.Prelude.{◌≡◌, ◌<◌, ◌≤◌, Ok, Err, IfOk, IfSome, IsNone, IsErrOf, length};
 ghost use Rattle.std.specs.Result.{result_err};
-ghost use Rattle.tdcc_base.specs.Causes.{Rose};
-ghost use Rattle.tdcc_base.specs.Limits.{longest_text, longest_line};
+ghost use Rattle.tdcc_base.specs.Causes.{HasReadCause, Rose};
+ghost use Rattle.tdcc_base.specs.Limits.{longest_text, longest_line, read_size};
 ghost use Rattle.tdcc_base.specs.Promises.{StaysSteady};
 
 use crate::buffers::Buffers;
@@ -35,8 +35,8 @@ impl<'a, S, B: Drop> Drop for Lines<'a, S, B> {
 }
 
 impl<'a, S: Source> Lines<'a, S> {
-    ghost use Rattle.tdcc_base.specs.Waiting.{waiting, source_of, text_read, line_read, limit_of, stop_of, reference_of, Opens, IsFirst, LinesReady, AtEnd, HasNotEnded, HoldsNothingBack, ReadsNoMoreAfterEnd};
-    ghost use Rattle.tdcc_base.specs.Lines.{ReadsLine};
+    ghost use Rattle.tdcc_base.specs.Waiting.{waiting, source_of, held_back, text_read, line_read, limit_of, stop_of, reference_of, Opens, IsFirst, LinesReady, AtEnd, HasNotEnded, HoldsNothingBack, ReadsNoMoreAfterEnd, MakesLineReads, MakesTextReads};
+    ghost use Rattle.tdcc_base.specs.Lines.{HasNoFeed, ReadsLine};
     ghost use Rattle.tdcc_base.specs.Texts.{ReadsText};
 
     /// Takes every buffer that the reading needs, and reads nothing.
@@ -89,7 +89,12 @@ impl<'a, S: Source> Lines<'a, S> {
         ensures end_all { result ≡ Ok TextEnd.End → HoldsNothingBack S.left self.new }
         ensures no_more { ReadsNoMoreAfterEnd self.old self.new }
 
+        // The reads of this call: none behind one that gave no bytes, and none that was not needed.
+        ensures reads { MakesTextReads S.read_gives self.old self.new result }
+        ensures bounded { length (held_back self.new) < read_size }
+
         // A fault of the source.
+        ensures cause { HasReadCause (S.faults (source_of self.old)) (S.faults (source_of self.new)) result }
         ensures faults_only_rise { S.faults (source_of self.old) ≤ S.faults (source_of self.new) }
         ensures read { IsErrOf result ReadStop.Read → Rose (S.faults (source_of self.old)) (S.faults (source_of self.new)) }
         ensures read_before_end { IsErrOf result ReadStop.Read → HasNotEnded self.new }
@@ -127,7 +132,14 @@ impl<'a, S: Source> Lines<'a, S> {
         ensures after_end { IsNone (stop_of self.old) → AtEnd self.old → (result ≡ Ok LineEnd.End) × AtEnd self.new }
         ensures no_more { ReadsNoMoreAfterEnd self.old self.new }
 
+        // The reads of this call: none behind one that gave no bytes, and none that was not needed.
+        ensures reads { IsNone (stop_of self.old) → MakesLineReads S.read_gives self.old self.new result }
+        ensures held { IsNone (stop_of self.old) → ¬ HasNoFeed (held_back self.old) → source_of self.new ≡ source_of self.old }
+        ensures bounded { IsNone (stop_of self.old) → length (held_back self.new) < read_size }
+
         // A fault of the source.
+        ensures cause { IsNone (stop_of self.old) →
+            HasReadCause (S.faults (source_of self.old)) (S.faults (source_of self.new)) result }
         ensures faults_only_rise { S.faults (source_of self.old) ≤ S.faults (source_of self.new) }
         ensures read { IsNone (stop_of self.old) → IsErrOf result ReadStop.Read → Rose (S.faults (source_of self.old)) (S.faults (source_of self.new)) }
         ensures read_before_end { IsNone (stop_of self.old) → IsErrOf result ReadStop.Read → HasNotEnded self.new }

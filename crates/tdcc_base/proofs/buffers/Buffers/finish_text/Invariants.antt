@@ -2,7 +2,9 @@ use Rattle.std.proofs.Common.{◌≡◌, ◌≤◌, ◌-◌, length}
 use Rattle.std.specs.Prelude.{IsTrue}
 use Rattle.std.specs.Io.KnownBytes.{Consumes}
 use Rattle.tdcc_base.specs.Limits.{longest_text}
-use Rattle.tdcc_base.specs.Unread.{unread, IsReady, StaysEnded}
+use Rattle.tdcc_base.specs.Texts.{IsTextSoFar}
+use Rattle.tdcc_base.specs.Unread.{pending, unread, IsReady, StaysEnded}
+use Rattle.tdcc_base.proofs.ReadSteps.{HasRead}
 use Rattle.tdcc_base.proofs.TextEnds.{IsTextFront}
 use Rattle.tdcc_base.proofs.buffers.Buffers.finish_text.Given as goal
 
@@ -13,7 +15,9 @@ invariant-lines g l = record {
   front : IsTextFront l.self.text.items;
   few : length l.self.text.items ≤ longest_text;
   stays : StaysEnded l.fn.self.ahead l.self.ahead l.fn.source l.source;
-  later : g.S.Source.faults l.fn.source ≤ g.S.Source.faults l.source;
+  same : g.S.Source.faults l.source ≡ g.S.Source.faults l.fn.source;
+  reads : HasRead g.S.Source.read_gives IsTextSoFar (pending l.fn.self.ahead) l.self.text.items (pending l.self.ahead) l.fn.source l.source;
+  ended : l.self.ahead.ended ≡ l.fn.self.ahead.ended;
   steady : IsTrue (g.S.Source.steady l.fn.source) → IsTrue (g.S.Source.steady l.source);
   stop : l.self.stop ≡ l.fn.self.stop;
   limit : l.self.limit ≡ l.fn.self.limit;
