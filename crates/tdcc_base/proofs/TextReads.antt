@@ -27,7 +27,7 @@ line_reads gives limit before after cleared line r r' result old new e is same t
     retake gives HasNoFeed (λ bytes left. AppendsLine (Some bytes) (Some left) cleared line limit r) (λ bytes left. ReadsLine limit (Some bytes) (Some left) line result)
     before after (is_read_fault r) (is_read_fault result) old new (ap is_read_fault is ∙ same)
     (λ bytes left a. tells (Some bytes) (Some left)
-        (subst (λ (xs : List ℕ). AppendsLine (Some bytes) (Some left) xs line limit r') e (subst (λ (x : Result LineBreak ReadStop). AppendsLine (Some bytes) (Some left) cleared line limit x) is a)))
+    (subst (λ (xs : List ℕ). AppendsLine (Some bytes) (Some left) xs line limit r') e (subst (λ (x : Result LineBreak ReadStop). AppendsLine (Some bytes) (Some left) cleared line limit x) is a)))
     reads
 
 -- whole lines with no mark, and a prefix of a line
@@ -54,8 +54,8 @@ module _ {S : Type 0} (gives : S → List ℕ → Result ℕ Failed → S → Ty
       → HasRead gives IsTextSoFar (pending before) next (pending after) old new
   text_more part next feed same appended pushed =
       let told = retake gives HasNoFeed (λ bytes left. AppendsLine (Some bytes) (Some left) done line limit r) (λ bytes left. bytes ≡ (part ++ 10 ∷ []) ++ left)
-          mid_ahead after (is_read_fault r) false mid new (ap is_read_fault (is ∙ feed))
-          (λ bytes left a. taken bytes left (subst (λ (x : Result LineBreak ReadStop). AppendsLine (Some bytes) (Some left) done line limit x) (is ∙ feed) a)) reads in
+      mid_ahead after (is_read_fault r) false mid new (ap is_read_fault (is ∙ feed))
+      (λ bytes left a. taken bytes left (subst (λ (x : Result LineBreak ReadStop). AppendsLine (Some bytes) (Some left) done line limit x) (is ∙ feed) a)) reads in
       let whole : done ++ (part ++ 10 ∷ []) ≡ next = sym (append_assoc done part (10 ∷ [])) ∙ ap (λ xs. xs ++ 10 ∷ []) (sym appended) ∙ sym pushed in
       subst (λ (xs : List ℕ). HasRead gives IsTextSoFar (pending before) xs (pending after) old new) whole
       (reads_on gives HasNoFeed IsTextSoFar before mid_ahead done old mid h (so_far done front) after new (λ bytes left. bytes ≡ (part ++ 10 ∷ []) ++ left) (part ++ 10 ∷ []) same told (λ bytes left t. t))

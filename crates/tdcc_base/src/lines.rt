@@ -16,8 +16,8 @@ use std::alloc::Global;
 /// 65,536 bytes, the line feed before the mark included. A line has at most 32,768 bytes without its
 /// line feed, or as many as `with_limit` was told. A last line without a line feed counts where it is not empty.
 ///
-/// Nothing is read beyond what the next answer needs and 4,096 bytes, and nothing after the source
-/// has answered that it is at its end.
+/// Each read asks for 4,096 bytes, and is made only where what is held back has no whole line, or for the
+/// text no mark with its line feed. After a read that failed, or answered that the source is at its end, none is made.
 pub struct Lines<'a, S, B = Buffers> {
     source: &'a mut S,
     buffers: B,

@@ -6,12 +6,14 @@ ghost use Rattle.tdcc_base.specs.Promises.{StaysSteady, TakesWithin};
 ghost use Rattle.tdcc_base.specs.declared.outside.Failed.{Failed};
 
 use std::alloc::AllocError;
+use thiserror::Error;
 
 /// Out of memory.
 pub type Memory = AllocError;
 
 /// A device refused a call, and counted that.
-#[derive(Clone, Copy, Debug, PartialEq, Eq)]
+#[derive(Clone, Copy, Debug, PartialEq, Eq, Error)]
+#[error("the device failed")]
 pub struct Failed;
 
 /// Where bytes come from.

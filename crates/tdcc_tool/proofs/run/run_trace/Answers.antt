@@ -23,7 +23,7 @@ lines-init g c = record {
 pub returns-in-Err-TooLong-clause-answer : goal.returns-in-Err-TooLong-clause-answer
 returns-in-Err-TooLong-clause-answer g c =
     let h = subst (λ (k : ℕ). ReadsLine k (waiting g.S.Source.left c.lines.lines) (waiting g.S.Source.left c.read_line.new.self) (line_read c.read_line.new.self) (Err stops.TooLong))
-        c.lines.invariant.limit ((rw c.in-Err-TooLong.field-0-is at c.in-Err-TooLong.ensures.line) c.lines.invariant.going_on) in
+    c.lines.invariant.limit ((rw c.in-Err-TooLong.field-0-is at c.in-Err-TooLong.ensures.line) c.lines.invariant.going_on) in
     let k = c.in_ok-finish-in-Err-TooLong.ensures in
     ended_long (settings_of c.args.start) (waiting g.S.Source.left c.args.lines.now) (waiting g.S.Source.left c.lines.lines) (waiting g.S.Source.left c.read_line.new.self) (line_read c.read_line.new.self) _ _ c.lines.course _
     c.lines.invariant.so_far h (record { status_is = k.status; out = k.out; err = k.err })
@@ -31,7 +31,7 @@ returns-in-Err-TooLong-clause-answer g c =
 pub returns-in-Ok-End-clause-answer : goal.returns-in-Ok-End-clause-answer
 returns-in-Ok-End-clause-answer g c =
     let h = subst (λ (k : ℕ). ReadsLine k (waiting g.S.Source.left c.lines.lines) (waiting g.S.Source.left c.read_line.new.self) (line_read c.read_line.new.self) (Ok line_ends.End))
-        c.lines.invariant.limit ((rw c.in-Ok-End.field-0-is at c.in-Ok-End.ensures.line) c.lines.invariant.going_on) in
+    c.lines.invariant.limit ((rw c.in-Ok-End.field-0-is at c.in-Ok-End.ensures.line) c.lines.invariant.going_on) in
     let k = c.in_ok-finish-in-Ok-End.ensures in
     ended_whole (settings_of c.args.start) (waiting g.S.Source.left c.args.lines.now) (waiting g.S.Source.left c.lines.lines) (waiting g.S.Source.left c.read_line.new.self) (line_read c.read_line.new.self) _ _ c.lines.course _
     c.lines.invariant.so_far h (record { status_is = k.status; out = k.out; err = k.err })
@@ -39,7 +39,7 @@ returns-in-Ok-End-clause-answer g c =
 pub returns-in-Some-clause-answer : goal.returns-in-Some-clause-answer
 returns-in-Some-clause-answer g c =
     let h = subst (λ (k : ℕ). ReadsLine k (waiting g.S.Source.left c.lines.lines) (waiting g.S.Source.left c.read_line.new.self) (line_read c.read_line.new.self) (Ok line_ends.Line))
-        c.lines.invariant.limit ((rw c.in-Ok-Line.field-0-is at c.in-Ok-Line.ensures.line) c.lines.invariant.going_on) in
+    c.lines.invariant.limit ((rw c.in-Ok-Line.field-0-is at c.in-Ok-Line.ensures.line) c.lines.invariant.going_on) in
     let at = rw c.in-Some.is at c.in_ok-end-in-Ok-Line.ensures in
     let k = c.in_ok-finish-in-Ok-Line.ensures in
     ended_at (settings_of c.args.start) (waiting g.S.Source.left c.args.lines.now) (waiting g.S.Source.left c.lines.lines) (waiting g.S.Source.left c.read_line.new.self) (line_read c.read_line.new.self) _ _ c.lines.course c.run_line.new.course c.in-Some.end _
@@ -48,7 +48,7 @@ returns-in-Some-clause-answer g c =
 pub lines-preserved : goal.lines-preserved
 lines-preserved g c =
     let h = subst (λ (k : ℕ). ReadsLine k (waiting g.S.Source.left c.lines.lines) (waiting g.S.Source.left c.read_line.new.self) (line_read c.read_line.new.self) (Ok line_ends.Line))
-        c.lines.invariant.limit ((rw c.in-Ok-Line.field-0-is at c.in-Ok-Line.ensures.line) c.lines.invariant.going_on) in
+    c.lines.invariant.limit ((rw c.in-Ok-Line.field-0-is at c.in-Ok-Line.ensures.line) c.lines.invariant.going_on) in
     let k : Goes c.lines.course c.run_line.new.course c.line.result.now = rw c.in_default.is at c.in_ok-end-in-Ok-Line.ensures in
     record {
       same = c.in-Ok-Line.ensures.same_reference ∙ c.lines.invariant.same;

@@ -131,7 +131,7 @@ returns-then-is_mark_at-clause-reads g c =
     text_reads g.S.Source.read_gives c.args.self.now.ahead c.lines.self.ahead c.append_line.new.self done after c.args.source.now c.lines.source c.append_line.new.source room_for_text c.append_line.result (Ok c.in_ok-line_break.line_break)
     c.lines.invariant.front c.lines.invariant.reads c.in_ok-line_break.was c.append_line.ensures.reads c.truncate.new.self.items (Ok ends.Mark) c.lines.invariant.ended refl
     (λ o m n t a. subst (λ (xs : List ℕ). ReadsText o n xs (Ok ends.Mark)) (sym (cut_text c.len-start.result done a.line after c.truncate.new.self.items c.truncate.ensures.items a.appended start))
-        (text_at_mark o m n done after c.lines.invariant.front t c.in_ok-line_break.line_break room_for_text a mark c.lines.invariant.few))
+    (text_at_mark o m n done after c.lines.invariant.front t c.in_ok-line_break.line_break room_for_text a mark c.lines.invariant.few))
 
 pub returns-then-len-gt-LONGEST_TEXT-clause-reads : goal.returns-then-len-gt-LONGEST_TEXT-clause-reads
 returns-then-len-gt-LONGEST_TEXT-clause-reads g c =

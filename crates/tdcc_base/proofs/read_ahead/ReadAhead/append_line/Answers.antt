@@ -27,15 +27,15 @@ bytes-preserved g c =
     let at : length c.bytes.into.items ≡ vec_len c.bytes.into = sym c.bytes.into.ok.0 in
     let more : length c.push_within.new.bytes.items ≡ length c.bytes.into.items + 1 = ap length c.push_within.ensures.items ∙ length-append c.bytes.into.items (c.in-Ok-Some.byte ∷ []) in
     record {
-  ready = c.in-Ok-Some.ensures.ready;
-  front = TakesFront-byte (unread g.S.Source.left c.args.self.now c.args.source.now) (unread g.S.Source.left c.bytes.self c.bytes.source) (unread g.S.Source.left c.next.new.self c.next.new.source)
-      c.args.into.now.items c.bytes.into.items c.push_within.new.bytes.items c.in-Ok-Some.byte c.bytes.invariant.front (rw c.in-Ok-Some.field-0-is at c.in-Ok-Some.ensures.gave) c.if-byte-eq10.false c.push_within.ensures.items;
-  within = omega (arith, c.if-len-limit.false, c.len.ensures, c.bytes.invariant.within, at, more, c.push_within.new.bytes.ok.0);
-  room = search rules;
-  stays = search rules;
-  over = search rules;
-  same = search rules;
-  reads = line_byte g.S.Source.read_gives c.args.self.now c.bytes.self c.args.into.now.items c.bytes.into.items c.args.source.now c.bytes.source c.bytes.invariant.reads
-      c.next.new.self c.push_within.new.bytes.items c.next.new.source (Ok c.in-Ok-Some.field-0) c.in-Ok-Some.byte (ap Ok c.in-Ok-Some.field-0-is) (search rules) c.in-Ok-Some.ensures.reads c.if-byte-eq10.false c.push_within.ensures.items;
-  steady = search rules;
-}
+      ready = c.in-Ok-Some.ensures.ready;
+      front = TakesFront-byte (unread g.S.Source.left c.args.self.now c.args.source.now) (unread g.S.Source.left c.bytes.self c.bytes.source) (unread g.S.Source.left c.next.new.self c.next.new.source)
+          c.args.into.now.items c.bytes.into.items c.push_within.new.bytes.items c.in-Ok-Some.byte c.bytes.invariant.front (rw c.in-Ok-Some.field-0-is at c.in-Ok-Some.ensures.gave) c.if-byte-eq10.false c.push_within.ensures.items;
+      within = omega (arith, c.if-len-limit.false, c.len.ensures, c.bytes.invariant.within, at, more, c.push_within.new.bytes.ok.0);
+      room = search rules;
+      stays = search rules;
+      over = search rules;
+      same = search rules;
+      reads = line_byte g.S.Source.read_gives c.args.self.now c.bytes.self c.args.into.now.items c.bytes.into.items c.args.source.now c.bytes.source c.bytes.invariant.reads
+          c.next.new.self c.push_within.new.bytes.items c.next.new.source (Ok c.in-Ok-Some.field-0) c.in-Ok-Some.byte (ap Ok c.in-Ok-Some.field-0-is) (search rules) c.in-Ok-Some.ensures.reads c.if-byte-eq10.false c.push_within.ensures.items;
+      steady = search rules;
+    }
