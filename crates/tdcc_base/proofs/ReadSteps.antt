@@ -7,7 +7,7 @@ use Rattle.tdcc_base.specs.declared.outside.Failed.{Failed}
 use Rattle.tdcc_base.specs.declared.read_ahead.ReadAhead.{ReadAhead}
 use Rattle.tdcc_base.specs.Limits.{read_size}
 use Rattle.tdcc_base.specs.Lines.{HasNoFeed}
-use Rattle.tdcc_base.specs.Reads.{GivesPiece, GivesPieces, bytes_given, WasNeeded, LastRead, ReadsOf, IsNothing, HandsOut}
+use Rattle.tdcc_base.specs.Reads.{ReadRule, GivesPiece, GivesPieces, bytes_given, WasNeeded, LastRead, ReadsOf, IsNothing, HandsOut}
 use Rattle.tdcc_base.specs.Unread.{pending, AppendsLine}
 use Rattle.tdcc_base.specs.declared.read_ahead.LineBreak.TheVariants as breaks
 use Rattle.tdcc_base.specs.declared.stops.ReadStop.TheVariants as stops
@@ -18,12 +18,12 @@ bytes_given-append : (later earlier : List (List ℕ)) → bytes_given (later ++
 bytes_given-append [] earlier = sym (append-nil (bytes_given earlier))
 bytes_given-append (piece ∷ later) earlier = ap (λ xs. xs ++ piece) (bytes_given-append later earlier) ∙ append_assoc (bytes_given earlier) (bytes_given later) piece
 
-given-append : {S : Type 0} (gives : S → List ℕ → Result ℕ Failed → S → Type 0) (old mid new : S) (later earlier : List (List ℕ)) → GivesPieces gives old earlier mid → GivesPieces gives mid later new → GivesPieces gives old (later ++ earlier) new
+given-append : {S : Type 0} (gives : ReadRule S) (old mid new : S) (later earlier : List (List ℕ)) → GivesPieces gives old earlier mid → GivesPieces gives mid later new → GivesPieces gives old (later ++ earlier) new
 given-append {S = S} gives old mid new [] earlier p q = subst (λ (s : S). GivesPieces gives old earlier s) (sym q) p
 given-append gives old mid new (piece ∷ later) earlier p q = (q.0, given-append gives old mid q.0 later earlier p q.1, q.2)
 
 -- where nothing was held and a read gave n bytes, these are the piece
-pub read_piece : {S : Type 0} (gives : S → List ℕ → Result ℕ Failed → S → Type 0) (old new : S) (chunk : List ℕ) (n : ℕ) → length chunk ≡ read_size → 0 < n → n ≤ length chunk → gives old chunk (Ok n) new → GivesPiece gives old (take n chunk) new
+pub read_piece : {S : Type 0} (gives : ReadRule S) (old new : S) (chunk : List ℕ) (n : ℕ) → length chunk ≡ read_size → 0 < n → n ≤ length chunk → gives old chunk (Ok n) new → GivesPiece gives old (take n chunk) new
 read_piece gives old new chunk n size some within gave =
     let count : length (take n chunk) ≡ n = length-take-le n chunk within in
     record {
@@ -39,19 +39,19 @@ pub nothing_held : (ahead : ReadAhead) → ahead.to ≤ ahead.from → pending a
 nothing_held ahead past = let none : ahead.to - ahead.from ≡ 0 = omega (arith, past) in ap (λ (k : ℕ). take k (drop ahead.from ahead.chunk.items)) none
 
 -- no read was made where nothing changed
-pub last_none : {S : Type 0} (gives : S → List ℕ → Result ℕ Failed → S → Type 0) (Needed : Type 0) (ended : Bool) (s : S) → LastRead gives Needed ended ended false s s
+pub last_none : {S : Type 0} (gives : ReadRule S) (Needed : Type 0) (ended : Bool) (s : S) → LastRead gives Needed ended ended false s s
 last_none gives Needed true s = refl
 last_none gives Needed false s = refl
 
 -- where the source did not end and did not fail, each read gave bytes
-pub last_same : {S : Type 0} (gives : S → List ℕ → Result ℕ Failed → S → Type 0) (Needed : Type 0) (was now : Bool) (old new : S) → now ≡ was → LastRead gives Needed was now false old new → new ≡ old
+pub last_same : {S : Type 0} (gives : ReadRule S) (Needed : Type 0) (was now : Bool) (old new : S) → now ≡ was → LastRead gives Needed was now false old new → new ≡ old
 last_same gives Needed true now old new e r = r
 last_same gives Needed false true old new e r = absurd (cc)
 last_same gives Needed false false old new e r = r
 
 -- ONE READ, WHERE NOTHING IS HELD
 
-pub fill_none : {S : Type 0} (gives : S → List ℕ → Result ℕ Failed → S → Type 0) (ahead : ReadAhead) (s : S) → ReadsOf gives IsNothing (λ bytes left. left ≡ bytes) ahead ahead false s s
+pub fill_none : {S : Type 0} (gives : ReadRule S) (ahead : ReadAhead) (s : S) → ReadsOf gives IsNothing (λ bytes left. left ≡ bytes) ahead ahead false s s
 fill_none gives ahead s = record {
   pieces = [];
   last = s;
@@ -61,7 +61,7 @@ fill_none gives ahead s = record {
   takes = sym (append-nil (pending ahead));
 }
 
-module _ {S : Type 0} (gives : S → List ℕ → Result ℕ Failed → S → Type 0) (before after : ReadAhead) (old new : S) (chunk : List ℕ) (size : length chunk ≡ read_size) (going : before.ended ≡ false) (none : pending before ≡ []) where
+module _ {S : Type 0} (gives : ReadRule S) (before after : ReadAhead) (old new : S) (chunk : List ℕ) (size : length chunk ≡ read_size) (going : before.ended ≡ false) (none : pending before ≡ []) where
   short : IsNothing (pending before ++ [])
   short = append-nil (pending before) ∙ none
 
@@ -98,14 +98,14 @@ module _ {S : Type 0} (gives : S → List ℕ → Result ℕ Failed → S → Ty
     takes = sym (ap (λ xs. xs ++ pending after) none);
   }
 
-last_for : {S : Type 0} (gives : S → List ℕ → Result ℕ Failed → S → Type 0) (N M : Type 0) (was now fails : Bool) (old new : S) → (N → M) → LastRead gives N was now fails old new → LastRead gives M was now fails old new
+last_for : {S : Type 0} (gives : ReadRule S) (N M : Type 0) (was now fails : Bool) (old new : S) → (N → M) → LastRead gives N was now fails old new → LastRead gives M was now fails old new
 last_for gives N M true now fails old new f r = r
 last_for gives N M false true fails old new f r = (r.0, f r.1)
 last_for gives N M false false true old new f r = (r.0, f r.1)
 last_for gives N M false false false old new f r = r
 
 -- the same reads, of which more is known of what was taken
-pub retake : {S : Type 0} (gives : S → List ℕ → Result ℕ Failed → S → Type 0) (FallsShort : List ℕ → Type 0) (T U : List ℕ → List ℕ → Type 0) (before after : ReadAhead) (fails known : Bool) (old new : S)
+pub retake : {S : Type 0} (gives : ReadRule S) (FallsShort : List ℕ → Type 0) (T U : List ℕ → List ℕ → Type 0) (before after : ReadAhead) (fails known : Bool) (old new : S)
     → fails ≡ known → ((bytes left : List ℕ) → T bytes left → U bytes left) → ReadsOf gives FallsShort T before after fails old new → ReadsOf gives FallsShort U before after known old new
 retake gives FallsShort T U before after fails known old new e f r = record {
   pieces = r.pieces;
@@ -117,7 +117,7 @@ retake gives FallsShort T U before after fails known old new e f r = record {
 }
 
 -- where what was held was enough, no read was made
-pub no_read : {S : Type 0} (gives : S → List ℕ → Result ℕ Failed → S → Type 0) (FallsShort : List ℕ → Type 0) (T : List ℕ → List ℕ → Type 0) (before after : ReadAhead) (fails : Bool) (old new : S)
+pub no_read : {S : Type 0} (gives : ReadRule S) (FallsShort : List ℕ → Type 0) (T : List ℕ → List ℕ → Type 0) (before after : ReadAhead) (fails : Bool) (old new : S)
     → ((bytes : List ℕ) → FallsShort (pending before ++ bytes) → ⊥) → ReadsOf gives FallsShort T before after fails old new → new ≡ old
 no_read {S = S} gives FallsShort T before after fails old new enough r = go r.pieces r.given r.needed (ends before.ended after.ended fails r.ending)
   where
@@ -140,16 +140,16 @@ front_no_feed (b ∷ front) rest f =
 -- WHAT WAS READ SO FAR
 
 -- of what was held before and what reads gave, the front was taken, and the rest is held
-pub record HasRead {S : Type 0} (gives : S → List ℕ → Result ℕ Failed → S → Type 0) (FallsShort : List ℕ → Type 0) (held front rest : List ℕ) (old now : S) : Type 0 where
+pub record HasRead {S : Type 0} (gives : ReadRule S) (FallsShort : List ℕ → Type 0) (held front rest : List ℕ) (old now : S) : Type 0 where
   pub pieces : List (List ℕ)
   pub given : GivesPieces gives old pieces now
   pub needed : WasNeeded FallsShort held pieces
   pub split : held ++ bytes_given pieces ≡ front ++ rest
 
-pub HasRead-start : {S : Type 0} (gives : S → List ℕ → Result ℕ Failed → S → Type 0) (FallsShort : List ℕ → Type 0) (held : List ℕ) (s : S) → HasRead gives FallsShort held [] held s s
+pub HasRead-start : {S : Type 0} (gives : ReadRule S) (FallsShort : List ℕ → Type 0) (held : List ℕ) (s : S) → HasRead gives FallsShort held [] held s s
 HasRead-start gives FallsShort held s = record { pieces = []; given = refl; needed = tt; split = append-nil held }
 
-module _ {S : Type 0} (gives : S → List ℕ → Result ℕ Failed → S → Type 0) (In Out : List ℕ → Type 0) (before mid_ahead : ReadAhead) (front : List ℕ) (old mid : S)
+module _ {S : Type 0} (gives : ReadRule S) (In Out : List ℕ → Type 0) (before mid_ahead : ReadAhead) (front : List ℕ) (old mid : S)
     (h : HasRead gives Out (pending before) front (pending mid_ahead) old mid) (short : (bytes : List ℕ) → In bytes → Out (front ++ bytes)) where
   all_bytes : (later : List (List ℕ)) → pending before ++ bytes_given (later ++ h.pieces) ≡ front ++ (pending mid_ahead ++ bytes_given later)
   all_bytes later =
@@ -193,17 +193,17 @@ module _ {S : Type 0} (gives : S → List ℕ → Result ℕ Failed → S → Ty
 -- A LINE SO FAR
 
 -- bytes of a line that were handed out, of what was held and read
-pub record LineSoFar {S : Type 0} (gives : S → List ℕ → Result ℕ Failed → S → Type 0) (before now : ReadAhead) (into_before into_now : List ℕ) (old new : S) : Type 0 where
+pub record LineSoFar {S : Type 0} (gives : ReadRule S) (before now : ReadAhead) (into_before into_now : List ℕ) (old new : S) : Type 0 where
   pub line : List ℕ
   pub appended : into_now ≡ into_before ++ line
   pub no_feed : HasNoFeed line
   pub reads : HasRead gives HasNoFeed (pending before) line (pending now) old new
   pub ended : now.ended ≡ before.ended
 
-pub LineSoFar-start : {S : Type 0} (gives : S → List ℕ → Result ℕ Failed → S → Type 0) (ahead : ReadAhead) (into : List ℕ) (s : S) → LineSoFar gives ahead ahead into into s s
+pub LineSoFar-start : {S : Type 0} (gives : ReadRule S) (ahead : ReadAhead) (into : List ℕ) (s : S) → LineSoFar gives ahead ahead into into s s
 LineSoFar-start gives ahead into s = record { line = []; appended = sym (append-nil into); no_feed = All-nil (λ b. b ≢ 10); reads = HasRead-start gives HasNoFeed (pending ahead) s; ended = refl }
 
-module _ {S : Type 0} (gives : S → List ℕ → Result ℕ Failed → S → Type 0) (before mid_ahead : ReadAhead) (into_before into_mid : List ℕ) (old mid : S) (l : LineSoFar gives before mid_ahead into_before into_mid old mid) where
+module _ {S : Type 0} (gives : ReadRule S) (before mid_ahead : ReadAhead) (into_before into_mid : List ℕ) (old mid : S) (l : LineSoFar gives before mid_ahead into_before into_mid old mid) where
   no_more : (bytes : List ℕ) → IsNothing bytes → HasNoFeed (l.line ++ bytes)
   no_more bytes none = subst HasNoFeed (sym (ap (λ xs. l.line ++ xs) none ∙ append-nil l.line)) l.no_feed
 

@@ -3,7 +3,6 @@ use Rattle.std.proofs.Common.{◌≡◌, ℕ, false, List, [], ◌∷◌, ◌++�
 use Rattle.std.specs.Prelude.{Option, Some, Result, Ok}
 use Rattle.std.specs.Io.KnownBytes.{Consumes}
 use Rattle.std.proofs.lemmas.List.{append_cancel_left}
-use Rattle.tdcc_base.specs.declared.outside.Failed.{Failed}
 use Rattle.tdcc_base.specs.declared.read_ahead.ReadAhead.{ReadAhead}
 use Rattle.tdcc_base.specs.declared.read_ahead.LineBreak.{LineBreak}
 use Rattle.tdcc_base.specs.declared.read_ahead.LineBreak.TheVariants as breaks
@@ -11,14 +10,14 @@ use Rattle.tdcc_base.specs.declared.stops.LineEnd.{LineEnd}
 use Rattle.tdcc_base.specs.declared.stops.TextEnd.{TextEnd}
 use Rattle.tdcc_base.specs.declared.stops.ReadStop.{ReadStop}
 use Rattle.tdcc_base.specs.Lines.{HasNoFeed, ReadsLine}
-use Rattle.tdcc_base.specs.Reads.{ReadsOf, ReadsForLine, ReadsForText, is_read_fault}
+use Rattle.tdcc_base.specs.Reads.{ReadRule, ReadsOf, ReadsForLine, ReadsForText, is_read_fault}
 use Rattle.tdcc_base.specs.Texts.{IsTextSoFar, ReadsText}
 use Rattle.tdcc_base.specs.Unread.{pending, AppendsLine}
 use Rattle.tdcc_base.proofs.ReadSteps.{HasRead, retake, reads_on, reads_end}
 use Rattle.tdcc_base.proofs.TextEnds.{IsTextFront}
 
 -- the reads for the line that was taken
-pub line_reads : {S : Type 0} (gives : S → List ℕ → Result ℕ Failed → S → Type 0) (limit : ℕ) (before after : ReadAhead) (cleared line : List ℕ) (r r' : Result LineBreak ReadStop) (result : Result LineEnd ReadStop) (old new : S)
+pub line_reads : {S : Type 0} (gives : ReadRule S) (limit : ℕ) (before after : ReadAhead) (cleared line : List ℕ) (r r' : Result LineBreak ReadStop) (result : Result LineEnd ReadStop) (old new : S)
     → cleared ≡ [] → r ≡ r' → is_read_fault r' ≡ is_read_fault result
     → ((o n : Option (List ℕ)) → AppendsLine o n [] line limit r' → ReadsLine limit o n line result)
     → ReadsOf gives HasNoFeed (λ bytes left. AppendsLine (Some bytes) (Some left) cleared line limit r) before after (is_read_fault r) old new
@@ -34,7 +33,7 @@ line_reads gives limit before after cleared line r r' result old new e is same t
 so_far : (done : List ℕ) → IsTextFront done → (bytes : List ℕ) → HasNoFeed bytes → IsTextSoFar (done ++ bytes)
 so_far done front bytes f = record { lines = done; part = bytes; split = refl; whole = front.whole; no_mark = front.no_mark; no_feed = f }
 
-module _ {S : Type 0} (gives : S → List ℕ → Result ℕ Failed → S → Type 0) (before mid_ahead after : ReadAhead) (done line : List ℕ) (old mid new : S) (limit : ℕ) (r r' : Result LineBreak ReadStop) (front : IsTextFront done)
+module _ {S : Type 0} (gives : ReadRule S) (before mid_ahead after : ReadAhead) (done line : List ℕ) (old mid new : S) (limit : ℕ) (r r' : Result LineBreak ReadStop) (front : IsTextFront done)
     (h : HasRead gives IsTextSoFar (pending before) done (pending mid_ahead) old mid) (is : r ≡ r')
     (reads : ReadsOf gives HasNoFeed (λ bytes left. AppendsLine (Some bytes) (Some left) done line limit r) mid_ahead after (is_read_fault r) mid new) where
   -- the reads for the text that ends with the line

@@ -1,5 +1,4 @@
 -- The reads of a source that one call makes, one after another. This project's own.
--- `gives` says what one read may do: the source before it, the bytes that it was lent, its answer, and the source after it.
 use Rattle.std.specs.Prelude.{◌≡◌, ℕ, ◌<◌, Bool, true, false, List, [], ◌∷◌, ◌++◌, length, take, Option, Some, Result, Ok, Err}
 use Rattle.tdcc_base.specs.declared.outside.Failed.{Failed}
 use Rattle.tdcc_base.specs.declared.read_ahead.ReadAhead.{ReadAhead}
@@ -12,14 +11,18 @@ use Rattle.tdcc_base.specs.Lines.{HasNoFeed, ReadsLine}
 use Rattle.tdcc_base.specs.Texts.{IsTextSoFar, ReadsText}
 use Rattle.tdcc_base.specs.Unread.{pending, Gave}
 
+-- what one read may do: the source before it, the bytes that it was lent as they are after it, its answer, and the source after it
+abbrev pub ReadRule : Type 0 → Type 1
+ReadRule S = S → List ℕ → Result ℕ Failed → S → Type 0
+
 -- a read that asked for as many bytes as every read was answered so
-pub record MakesRead {S : Type 0} (gives : S → List ℕ → Result ℕ Failed → S → Type 0) (old : S) (answer : Result ℕ Failed) (new : S) : Type 0 where
+pub record MakesRead {S : Type 0} (gives : ReadRule S) (old : S) (answer : Result ℕ Failed) (new : S) : Type 0 where
   pub lent : List ℕ
   pub size : length lent ≡ read_size
   pub gave : gives old lent answer new
 
 -- a read that asked for as many bytes as every read gave these, of which there are some
-pub record GivesPiece {S : Type 0} (gives : S → List ℕ → Result ℕ Failed → S → Type 0) (old : S) (piece : List ℕ) (new : S) : Type 0 where
+pub record GivesPiece {S : Type 0} (gives : ReadRule S) (old : S) (piece : List ℕ) (new : S) : Type 0 where
   pub lent : List ℕ
   pub size : length lent ≡ read_size
   pub front : piece ≡ take (length piece) lent
@@ -27,7 +30,7 @@ pub record GivesPiece {S : Type 0} (gives : S → List ℕ → Result ℕ Failed
   pub gave : gives old lent (Ok (length piece)) new
 
 -- reads gave these pieces one after another, of which the latest stands first
-abbrev pub GivesPieces : {S : Type 0} → (S → List ℕ → Result ℕ Failed → S → Type 0) → S → List (List ℕ) → S → Type 0
+abbrev pub GivesPieces : {S : Type 0} → ReadRule S → S → List (List ℕ) → S → Type 0
 GivesPieces gives old [] new = new ≡ old
 GivesPieces {S = S} gives old (piece ∷ pieces) new = (mid : S) × GivesPieces gives old pieces mid × GivesPiece gives mid piece new
 
@@ -41,17 +44,18 @@ abbrev pub WasNeeded : (List ℕ → Type 0) → List ℕ → List (List ℕ) �
 WasNeeded FallsShort held [] = Unit {0}
 WasNeeded FallsShort held (piece ∷ pieces) = FallsShort (held ++ bytes_given pieces)
 
--- The read that gave no bytes: where the source ended in the call, or the call answers a fault, there was one, and it was needed.
--- Else there was none, and so after the end of the source.
-abbrev pub LastRead : {S : Type 0} → (S → List ℕ → Result ℕ Failed → S → Type 0) → Type 0 → Bool → Bool → Bool → S → S → Type 0
+-- The read that gave no bytes. Where the source ended in the call, or the call answers a fault, there was one, and it was
+-- needed. Else there was none; nor was there after the end of the source.
+abbrev pub LastRead : {S : Type 0} → ReadRule S → Type 0 → Bool → Bool → Bool → S → S → Type 0
 LastRead gives Needed true ended fails old new = new ≡ old
 LastRead gives Needed false true fails old new = MakesRead gives old (Ok 0) new × Needed
 LastRead gives Needed false false true old new = ((e : Failed) × MakesRead gives old (Err e) new) × Needed
 LastRead gives Needed false false false old new = new ≡ old
 
--- The reads of one call: some that gave bytes, and behind them at most one that gave none. Each was made only where what stood there
--- before it fell short. What stood there at last was taken so, but for what is held back.
-pub record ReadsOf {S : Type 0} (gives : S → List ℕ → Result ℕ Failed → S → Type 0) (FallsShort : List ℕ → Type 0) (Takes : List ℕ → List ℕ → Type 0) (before after : ReadAhead) (fails : Bool) (old new : S) : Type 0 where
+-- The reads of one call: some that gave bytes, and behind them at most one that gave none. Each was made only where what
+-- was held before the call, and what the reads before it gave, fell short. Of all this was taken so, but for what is held.
+pub record ReadsOf {S : Type 0} (gives : ReadRule S) (FallsShort : List ℕ → Type 0) (Takes : List ℕ → List ℕ → Type 0)
+    (before after : ReadAhead) (fails : Bool) (old new : S) : Type 0 where
   pub pieces : List (List ℕ)
   pub last : S
   pub given : GivesPieces gives old pieces last
@@ -74,12 +78,16 @@ abbrev pub HandsOut : {E : Type 0} → Result (Option ℕ) E → List ℕ → Li
 HandsOut (Ok byte) bytes left = Gave byte (Some bytes) (Some left)
 HandsOut (Err e) bytes left = left ≡ bytes
 
--- The reads for a line: none where a line feed stands in what is there already. The line is the next of what was held back and read.
-abbrev pub ReadsForLine : {S : Type 0} → (S → List ℕ → Result ℕ Failed → S → Type 0) → ℕ → List ℕ → Result LineEnd ReadStop → ReadAhead → ReadAhead → S → S → Type 0
+-- The reads for a line: none where a line feed stands in what is there already. The line is the next of what was held
+-- and what was read.
+abbrev pub ReadsForLine : {S : Type 0} → ReadRule S → ℕ → List ℕ → Result LineEnd ReadStop → ReadAhead → ReadAhead → S → S → Type 0
 ReadsForLine gives limit line result before after old new =
-    ReadsOf gives HasNoFeed (λ bytes left. ReadsLine limit (Some bytes) (Some left) line result) before after (is_read_fault result) old new
+    ReadsOf gives HasNoFeed (λ bytes left. ReadsLine limit (Some bytes) (Some left) line result)
+    before after (is_read_fault result) old new
 
--- The reads for a text: none where a mark with its line feed stands in what is there already. The text is that of what was held back and read.
-abbrev pub ReadsForText : {S : Type 0} → (S → List ℕ → Result ℕ Failed → S → Type 0) → List ℕ → Result TextEnd ReadStop → ReadAhead → ReadAhead → S → S → Type 0
+-- The reads for a text: none where a mark with its line feed stands in what is there already. The text is that of what
+-- was held and what was read.
+abbrev pub ReadsForText : {S : Type 0} → ReadRule S → List ℕ → Result TextEnd ReadStop → ReadAhead → ReadAhead → S → S → Type 0
 ReadsForText gives text result before after old new =
-    ReadsOf gives IsTextSoFar (λ bytes left. ReadsText (Some bytes) (Some left) text result) before after (is_read_fault result) old new
+    ReadsOf gives IsTextSoFar (λ bytes left. ReadsText (Some bytes) (Some left) text result)
+    before after (is_read_fault result) old new

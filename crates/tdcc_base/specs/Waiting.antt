@@ -1,13 +1,12 @@
 -- What `Lines` are over: a source, and what was read of it. This project's own.
 use Rattle.std.specs.Prelude.{◌≡◌, ℕ, false, List, [], Option, None, Result}
 use Rattle.std.specs.Borrow.{GName}
-use Rattle.tdcc_base.specs.declared.outside.Failed.{Failed}
 use Rattle.tdcc_base.specs.declared.stops.LineEnd.{LineEnd}
 use Rattle.tdcc_base.specs.declared.stops.TextEnd.{TextEnd}
 use Rattle.tdcc_base.specs.declared.stops.ReadStop.{ReadStop}
 use Rattle.tdcc_base.specs.declared.buffers.Buffers.{Buffers}
 use Rattle.tdcc_base.specs.declared.lines.Lines.{Lines}
-use Rattle.tdcc_base.specs.Reads.{ReadsForLine, ReadsForText}
+use Rattle.tdcc_base.specs.Reads.{ReadRule, ReadsForLine, ReadsForText}
 use Rattle.tdcc_base.specs.Unread.{pending, unread, IsReady, IsOver, IsDrained, StaysEnded}
 
 -- nothing was read into the buffers yet
@@ -79,12 +78,13 @@ pub record Opens {S : Type 0} (left : S → Option (List ℕ)) (source : S) (lin
   pub first : IsFirst left lines
   pub all : waiting left lines ≡ left source
 
--- the reads of a call that reads a line and answers so; `gives` says what one read may do
-abbrev pub MakesLineReads : {S : Type 0} → (S → List ℕ → Result ℕ Failed → S → Type 0) → Lines S Buffers → Lines S Buffers → Result LineEnd ReadStop → Type 0
+-- the reads of a call that reads a line and answers so, by the rule for one read
+abbrev pub MakesLineReads : {S : Type 0} → ReadRule S → Lines S Buffers → Lines S Buffers → Result LineEnd ReadStop → Type 0
 MakesLineReads gives old new result =
-    ReadsForLine gives (limit_of old) (line_read new) result old.buffers.ahead new.buffers.ahead (source_of old) (source_of new)
+    ReadsForLine gives (limit_of old) (line_read new) result old.buffers.ahead new.buffers.ahead
+    (source_of old) (source_of new)
 
 -- the reads of a call that reads a text and answers so
-abbrev pub MakesTextReads : {S : Type 0} → (S → List ℕ → Result ℕ Failed → S → Type 0) → Lines S Buffers → Lines S Buffers → Result TextEnd ReadStop → Type 0
+abbrev pub MakesTextReads : {S : Type 0} → ReadRule S → Lines S Buffers → Lines S Buffers → Result TextEnd ReadStop → Type 0
 MakesTextReads gives old new result =
     ReadsForText gives (text_read new) result old.buffers.ahead new.buffers.ahead (source_of old) (source_of new)

@@ -62,17 +62,22 @@ impl Buffers {
     /// Reads the next line. After a stop it answers the same stop, and reads nothing.
     pub(crate) fn read_line<S: Source>(&mut self, source: &mut S) -> Result<LineEnd, ReadStop>
         requires ready { IsReady S.left self.old.ahead source.old }
-        ensures line { IsNone self.old.stop → ReadsLine self.old.limit (unread S.left self.old.ahead source.old) (unread S.left self.new.ahead source.new) self.new.line.items result }
-        ensures repeats_stop { IfSome self.old.stop (λ stop. (result ≡ Err stop) × (self.new ≡ self.old) × (source.new ≡ source.old)) }
+        ensures line { IsNone self.old.stop → ReadsLine self.old.limit (unread S.left self.old.ahead source.old)
+            (unread S.left self.new.ahead source.new) self.new.line.items result }
+        ensures repeats_stop { IfSome self.old.stop
+            (λ stop. (result ≡ Err stop) × (self.new ≡ self.old) × (source.new ≡ source.old)) }
         ensures stopped { self.new.stop ≡ result_err result }
         ensures ready { IsReady S.left self.new.ahead source.new }
         ensures end { result ≡ Ok LineEnd.End → IsOver self.new.ahead }
         ensures drained { IsNone self.old.stop → IsErrOf result ReadStop.Read → IsDrained self.new.ahead }
         ensures stays { StaysEnded self.old.ahead self.new.ahead source.old source.new }
-        ensures over { IsNone self.old.stop → IsOver self.old.ahead → (result ≡ Ok LineEnd.End) × IsOver self.new.ahead }
+        ensures over { IsNone self.old.stop → IsOver self.old.ahead →
+            (result ≡ Ok LineEnd.End) × IsOver self.new.ahead }
         ensures faults_only_rise { S.faults source.old ≤ S.faults source.new }
-        ensures read { IsNone self.old.stop → IsErrOf result ReadStop.Read → Rose (S.faults source.old) (S.faults source.new) }
-        ensures steady { IsNone self.old.stop → StaysSteady (S.steady source.old) (S.steady source.new) (IsErrOf result ReadStop.Read) }
+        ensures read { IsNone self.old.stop → IsErrOf result ReadStop.Read →
+            Rose (S.faults source.old) (S.faults source.new) }
+        ensures steady { IsNone self.old.stop →
+            StaysSteady (S.steady source.old) (S.steady source.new) (IsErrOf result ReadStop.Read) }
         ensures short { IfOk result (λ _. vec_len self.new.line ≤ self.old.limit) }
         ensures reads { IsNone self.old.stop →
             ReadsForLine S.read_gives self.old.limit self.new.line.items result self.old.ahead self.new.ahead source.old source.new }
@@ -102,7 +107,8 @@ impl Buffers {
         requires ready { IsReady S.left self.old.ahead source.old }
         requires first { IsUnused self.old }
         ensures limit { self.new.limit ≡ self.old.limit }
-        ensures text { ReadsText (unread S.left self.old.ahead source.old) (unread S.left self.new.ahead source.new) self.new.text.items result }
+        ensures text { ReadsText (unread S.left self.old.ahead source.old)
+            (unread S.left self.new.ahead source.new) self.new.text.items result }
         ensures stopped { self.new.stop ≡ result_err result }
         ensures ready { IsReady S.left self.new.ahead source.new }
         ensures end { result ≡ Ok TextEnd.End → IsOver self.new.ahead }
@@ -127,7 +133,8 @@ impl Buffers {
     fn finish_text<S: Source>(&mut self, source: &mut S) -> Result<TextEnd, ReadStop>
         requires ready { IsReady S.left self.old.ahead source.old }
         requires empty { self.old.text.items ≡ [] }
-        ensures text { ReadsText (unread S.left self.old.ahead source.old) (unread S.left self.new.ahead source.new) self.new.text.items result }
+        ensures text { ReadsText (unread S.left self.old.ahead source.old)
+            (unread S.left self.new.ahead source.new) self.new.text.items result }
         ensures ready { IsReady S.left self.new.ahead source.new }
         ensures end { result ≡ Ok TextEnd.End → IsOver self.new.ahead }
         ensures drained { IsErrOf result ReadStop.Read → IsDrained self.new.ahead }

@@ -96,12 +96,14 @@ impl<'a, S: Source> Lines<'a, S> {
         // A fault of the source.
         ensures cause { HasReadCause (S.faults (source_of self.old)) (S.faults (source_of self.new)) result }
         ensures faults_only_rise { S.faults (source_of self.old) ≤ S.faults (source_of self.new) }
-        ensures read { IsErrOf result ReadStop.Read → Rose (S.faults (source_of self.old)) (S.faults (source_of self.new)) }
+        ensures read { IsErrOf result ReadStop.Read →
+            Rose (S.faults (source_of self.old)) (S.faults (source_of self.new)) }
         ensures read_before_end { IsErrOf result ReadStop.Read → HasNotEnded self.new }
         ensures read_all { IsErrOf result ReadStop.Read → HoldsNothingBack S.left self.new }
 
         // What a steady source is sure of.
-        ensures steady { StaysSteady (S.steady (source_of self.old)) (S.steady (source_of self.new)) (IsErrOf result ReadStop.Read) }
+        ensures steady { StaysSteady (S.steady (source_of self.old)) (S.steady (source_of self.new))
+            (IsErrOf result ReadStop.Read) }
     {
         self.buffers.read_text(self.source)
     }
@@ -134,19 +136,22 @@ impl<'a, S: Source> Lines<'a, S> {
 
         // The reads of this call: none behind one that gave no bytes, and none that was not needed.
         ensures reads { IsNone (stop_of self.old) → MakesLineReads S.read_gives self.old self.new result }
-        ensures held { IsNone (stop_of self.old) → ¬ HasNoFeed (held_back self.old) → source_of self.new ≡ source_of self.old }
+        ensures held { IsNone (stop_of self.old) → ¬ HasNoFeed (held_back self.old) →
+            source_of self.new ≡ source_of self.old }
         ensures bounded { IsNone (stop_of self.old) → length (held_back self.new) < read_size }
 
         // A fault of the source.
         ensures cause { IsNone (stop_of self.old) →
             HasReadCause (S.faults (source_of self.old)) (S.faults (source_of self.new)) result }
         ensures faults_only_rise { S.faults (source_of self.old) ≤ S.faults (source_of self.new) }
-        ensures read { IsNone (stop_of self.old) → IsErrOf result ReadStop.Read → Rose (S.faults (source_of self.old)) (S.faults (source_of self.new)) }
+        ensures read { IsNone (stop_of self.old) → IsErrOf result ReadStop.Read →
+            Rose (S.faults (source_of self.old)) (S.faults (source_of self.new)) }
         ensures read_before_end { IsNone (stop_of self.old) → IsErrOf result ReadStop.Read → HasNotEnded self.new }
         ensures read_all { IsNone (stop_of self.old) → IsErrOf result ReadStop.Read → HoldsNothingBack S.left self.new }
 
         // What a steady source is sure of.
-        ensures steady { IsNone (stop_of self.old) → StaysSteady (S.steady (source_of self.old)) (S.steady (source_of self.new)) (IsErrOf result ReadStop.Read) }
+        ensures steady { IsNone (stop_of self.old) →
+            StaysSteady (S.steady (source_of self.old)) (S.steady (source_of self.new)) (IsErrOf result ReadStop.Read) }
     {
         self.buffers.read_line(self.source)
     }

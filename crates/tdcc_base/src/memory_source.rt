@@ -70,9 +70,11 @@ impl Source for MemSource {
     fn read(&mut self, into: &mut [u8]) -> Result<usize, Failed>
         requires { 0 < length into.old }
         ensures bound { ReadsAtMost result into.new }
-        ensures bytes { ReadConsumes (Some (concat (pieces_left self.old))) (Some (concat (pieces_left self.new))) result into.new }
+        ensures bytes { ReadConsumes (Some (concat (pieces_left self.old)))
+            (Some (concat (pieces_left self.new))) result into.new }
         ensures cause { HasCause (source_calls self.old).faults (source_calls self.new).faults result }
-        ensures steady { StaysSteady (lists_none (source_calls self.old)) (lists_none (source_calls self.new)) (IsErr result) }
+        ensures steady { StaysSteady (lists_none (source_calls self.old)) (lists_none (source_calls self.new))
+            (IsErr result) }
         ensures own { GivesNext self.old into.new result self.new }
     {
         if self.calls.begin() {

@@ -59,7 +59,8 @@ impl ReadAhead {
         ensures ready { IsReady S.left self.new source.new }
         ensures stays { StaysEnded self.old self.new source.old source.new }
         ensures over { IsOver self.old → (result ≡ Ok false) × (self.new ≡ self.old) }
-        ensures reads { ReadsOf S.read_gives IsNothing (λ bytes left. left ≡ bytes) self.old self.new (is_err result) source.old source.new }
+        ensures reads { ReadsOf S.read_gives IsNothing (λ bytes left. left ≡ bytes) self.old self.new
+            (is_err result) source.old source.new }
         ensures going { result ≡ Ok true → self.new.ended ≡ self.old.ended }
         ensures cause { HasCause (S.faults source.old) (S.faults source.new) result }
         ensures steady { StaysSteady (S.steady source.old) (S.steady source.new) (IsErr result) }
@@ -91,7 +92,8 @@ impl ReadAhead {
         ensures ready { IsReady S.left self.new source.new }
         ensures stays { StaysEnded self.old self.new source.old source.new }
         ensures over { IsOver self.old → (result ≡ Ok None) × (self.new ≡ self.old) }
-        ensures reads { ReadsOf S.read_gives IsNothing (HandsOut result) self.old self.new (is_err result) source.old source.new }
+        ensures reads { ReadsOf S.read_gives IsNothing (HandsOut result) self.old self.new
+            (is_err result) source.old source.new }
         ensures going { IfOk result (λ byte. IsSome byte → self.new.ended ≡ self.old.ended) }
         ensures bounded { IfOk result (λ byte. IsSome byte → length (pending self.new) < read_size) }
         ensures cause { HasCause (S.faults source.old) (S.faults source.new) result }
@@ -117,14 +119,16 @@ impl ReadAhead {
         requires ready { IsReady S.left self.old source.old }
         requires within { vec_len into.old ≤ limit }
         requires room { limit ≤ vec_capacity into.old }
-        ensures line { AppendsLine (unread S.left self.old source.old) (unread S.left self.new source.new) into.old.items into.new.items limit result }
+        ensures line { AppendsLine (unread S.left self.old source.old)
+            (unread S.left self.new source.new) into.old.items into.new.items limit result }
         ensures within { vec_len into.new ≤ limit }
         ensures room { limit ≤ vec_capacity into.new }
         ensures ready { IsReady S.left self.new source.new }
         ensures end { result ≡ Ok LineBreak.End → IsOver self.new }
         ensures drained { IsErrOf result ReadStop.Read → IsDrained self.new }
         ensures stays { StaysEnded self.old self.new source.old source.new }
-        ensures over { IsOver self.old → (result ≡ Ok LineBreak.End) × (self.new ≡ self.old) × (into.new.items ≡ into.old.items) }
+        ensures over { IsOver self.old → (result ≡ Ok LineBreak.End) × (self.new ≡ self.old)
+            × (into.new.items ≡ into.old.items) }
         ensures reads { ReadsOf S.read_gives HasNoFeed
             (λ bytes left. AppendsLine (Some bytes) (Some left) into.old.items into.new.items limit result)
             self.old self.new (is_read_fault result) source.old source.new }
