@@ -7,3 +7,4 @@ pub mod Joined
 pub mod Decimals
 pub mod KindSays
 pub mod Printed
+pub mod Verdicts

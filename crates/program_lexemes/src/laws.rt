@@ -1,7 +1,8 @@
 // The laws of lexemes: facts about their definitions, each proved as the contract of a function with no body.
-ghost use Rattle.std.specs.Prelude.{◌≡◌, ◌<◌, ◌^◌, ℕ, List, Some, decimal, neg_ℤ, pos, true, ◌∷◌};
+ghost use Rattle.std.specs.Prelude.{◌≡◌, ◌⊎◌, ◌<◌, ◌^◌, ℕ, List, Some, decimal, neg_ℤ, pos, true, ◌∷◌};
 ghost use Rattle.program_lexemes.specs.Forms.{kind_of};
-ghost use Rattle.program_lexemes.specs.Lexemes.{AreLexemes};
+ghost use Rattle.program_lexemes.specs.Lexemes.{AreLexemes, IsBad};
+ghost use Rattle.program_lexemes.specs.declared.lexer.Lexeme.{Lexeme};
 ghost use Rattle.program_lexemes.specs.Numbers.{is_number, value_of_number};
 ghost use Rattle.program_lexemes.specs.SpacedLexemes.{AreCut, SpacedLexeme, spaced_text, spans};
 ghost use Rattle.program_lexemes.specs.Spellings.{is_keyword, is_symbol, keyword_bytes, keyword_named, symbol_bytes, symbol_named};
@@ -42,4 +43,17 @@ pub fn numerals_law()
         → kind_of form (45 ∷ decimal n) ≡ Some LexKind.Number }
     ensures value { (n : ℕ) → n < 2 ^ 64 → value_of_number (decimal n) ≡ pos n }
     ensures minus_value { (n : ℕ) → n < 2 ^ 64 → value_of_number (45 ∷ decimal n) ≡ neg_ℤ (pos n) }
+{}
+
+/// Each text has lexemes to its end, and these alone, or a bad byte, and this alone. So what `lexemes` answers is all that
+/// there is to say of a text, unless it answers `Memory`.
+pub fn lexemes_law()
+    ensures some { (form : TextForm) (text : List ℕ)
+        → ((ls : List Lexeme) × AreLexemes form text ls) ⊎ ((offset : ℕ) × IsBad form text offset) }
+    ensures one_list { (form : TextForm) (text : List ℕ) (ls ms : List Lexeme)
+        → AreLexemes form text ls → AreLexemes form text ms → ls ≡ ms }
+    ensures one_byte { (form : TextForm) (text : List ℕ) (m n : ℕ)
+        → IsBad form text m → IsBad form text n → m ≡ n }
+    ensures not_both { (form : TextForm) (text : List ℕ) (ls : List Lexeme) (offset : ℕ)
+        → AreLexemes form text ls → IsBad form text offset → ⊥ }
 {}

@@ -13,7 +13,7 @@ mod tests;
 
 pub use bytes::TextForm;
 pub use keywords::{Keyword, keyword_of};
-pub use laws::{joined_law, kinds_law, numerals_law, spellings_law};
+pub use laws::{joined_law, kinds_law, lexemes_law, numerals_law, spellings_law};
 pub use lexer::{LexFault, LexKind, Lexeme, MAX_TEXT, lexemes};
 pub use readers::{is_long, lexeme_bytes, number_value};
 pub use symbols::{Symbol, symbol_of};
