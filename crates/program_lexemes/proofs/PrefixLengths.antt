@@ -3,19 +3,11 @@ use Rattle.std.proofs.Common.{◌≡◌, ℕ, ◌<◌, ◌≤◌, List, [], ◌�
 use Rattle.std.specs.Prelude.{if◌then◌else◌, ◌&&◌, nat_le}
 use Rattle.std.specs.List.{list_all}
 use Rattle.std.proofs.lemmas.List.{length-take-le}
+pub use Rattle.names_and_numbers.proofs.Bools.{and_left, and_right}
+use Rattle.names_and_numbers.proofs.Bools.{both_true}
+use Rattle.names_and_numbers.specs.Limits.{most_digits}
 use Rattle.program_lexemes.specs.Forms.{is_digit, are_digits, are_few_digits}
 use Rattle.program_lexemes.specs.Prefixes.{prefix_len, IsLongestPrefix, NoPrefix}
-
-pub and_left : (a b : Bool) → (a && b) ≡ true → a ≡ true
-and_left true b e = refl
-and_left false b e = cc
-
-pub and_right : (a b : Bool) → (a && b) ≡ true → b ≡ true
-and_right true b e = e
-and_right false b e = cc
-
-both_true : (a b : Bool) → a ≡ true → b ≡ true → (a && b) ≡ true
-both_true a b e f = ap (λ t. t && b) e ∙ f
 
 prefix_passes : (p : ℕ → Bool) (bs : List ℕ) (m : ℕ) → m ≤ prefix_len p bs → list_all p (take m bs) ≡ true
 prefix_passes p bs zero h = refl

@@ -17,6 +17,7 @@ use Rattle.program_grammar.specs.Phrases.{UnitPhrase, Tell, Braces, IfThen, IfEl
 use Rattle.program_grammar.specs.Phrases as phrase
 use Rattle.program_grammar.specs.Programs.{IsProgram, IsFault}
 use Rattle.program_grammar.proofs.Verdicts as grammar
+use Rattle.tdcc_reader.specs.Limits.{most_declared_cells}
 use Rattle.tdcc_reader.specs.declared.dialect.Dialect.{Dialect}
 use Rattle.tdcc_reader.specs.declared.fault.ReadFault.{ReadFault}
 use Rattle.tdcc_reader.specs.declared.fault.ReadFault.TheVariants.{TextTooLong, Lex, LongName, LongNumber, Later, Syntax, TooDeep, TooManyTokens, DoubleName, EmptyDomain, UnknownName, WrongKind, TooManyDeclared, Memory}
@@ -25,7 +26,7 @@ use Rattle.tdcc_reader.specs.declared.limits.Limit.TheVariants as limit
 use Rattle.tdcc_reader.specs.declared.naming.NameFault.{NameFault}
 use Rattle.tdcc_reader.specs.declared.naming.NameFault.TheVariants as naming
 use Rattle.tdcc_reader.specs.Dialects.{max_bytes, text_form, language}
-use Rattle.tdcc_reader.specs.Limits.{program_limit}
+use Rattle.tdcc_reader.specs.LimitFaults.{program_limit}
 use Rattle.tdcc_reader.specs.Scope.{program_fault}
 use Rattle.tdcc_reader.specs.Surfaces.{Declared, declared, declared_signal, declared_number, cell_view, unit_cells, agent_cells, names_cells, items_cells, declared_cells, program_cells, program_tree, SurfaceProgram, IsSurfaceOf}
 use Rattle.tdcc_reader.specs.Trees.{form_listing}
@@ -103,7 +104,7 @@ module _ (dialect : Dialect) (text : List ℕ) where
 
   -- on a program
   by_declared : (ts : List Term) (p : ProgramPhrase) → HasTerms dialect text ts → IsProgramOf dialect ts p → program_limit dialect p ≡ None → program_fault p ≡ None
-      → (256 < length (declared_cells p)) ⊎ (length (declared_cells p) ≤ 256) → HasVerdict dialect text
+      → (most_declared_cells < length (declared_cells p)) ⊎ (length (declared_cells p) ≤ most_declared_cells) → HasVerdict dialect text
   by_declared ts p has is within named (inl many) = refused TooManyDeclared (λ e. cc) (ts, has, (p, is, within, named, many))
   by_declared ts p has is within named (inr few) = accepted p (record { terms = ts; has = has; is = is; within = within; named = named; declared = few })
 
@@ -112,7 +113,7 @@ module _ (dialect : Dialect) (text : List ℕ) where
   by_names ts p has is within (Some (naming.EmptyDomain n)) e = refused (EmptyDomain n) (λ e. cc) (ts, has, (p, is, within, e))
   by_names ts p has is within (Some (naming.UnknownName n)) e = refused (UnknownName n) (λ e. cc) (ts, has, (p, is, within, e))
   by_names ts p has is within (Some (naming.WrongKind n)) e = refused (WrongKind n) (λ e. cc) (ts, has, (p, is, within, e))
-  by_names ts p has is within None e = by_declared ts p has is within e (cases_lt 256 (length (declared_cells p)))
+  by_names ts p has is within None e = by_declared ts p has is within e (cases_lt most_declared_cells (length (declared_cells p)))
 
   by_limits : (ts : List Term) (p : ProgramPhrase) → HasTerms dialect text ts → IsProgramOf dialect ts p → (o : Option Limit) → program_limit dialect p ≡ o → HasVerdict dialect text
   by_limits ts p has is (Some (limit.TooDeep n)) e = refused (TooDeep n) (λ e. cc) (ts, has, (p, is, e))

@@ -7,22 +7,26 @@ use std::alloc::AllocError;
 /// Why a text was not read. Lexemes are numbered from 0.
 #[derive(Clone, Copy, Debug, PartialEq, Eq)]
 pub enum ReadFault {
-    /// The text has more bytes than it may have.
+    /// The text has more bytes than it may have: of a program text, more than
+    /// [`program_lexemes::LONGEST_PROGRAM_TEXT`], which the message names; of a core text, more than
+    /// [`program_lexemes::LONGEST_CORE_TEXT`].
     TextTooLong,
     /// At this byte begins neither white space nor a lexeme, and it is the first one.
     Lex { offset: u32 },
-    /// This lexeme is a name of more than 32 bytes, and no lexeme before it is too long.
+    /// This lexeme is a name of more than [`names_and_numbers::LONGEST_NAME`] bytes, and no lexeme before it is too long.
     LongName { lexeme: u32 },
-    /// This lexeme is a number of more than 9 digits, and no lexeme before it is too long.
+    /// This lexeme is a number of more than [`names_and_numbers::MOST_DIGITS`] digits, and no lexeme before it is too
+    /// long.
     LongNumber { lexeme: u32 },
     /// This lexeme is the first one that belongs to a form that is not built yet.
     Later { lexeme: u32 },
     /// The lexemes are no program, and so many of them begin one.
     Syntax { lexeme: u32 },
-    /// With this lexeme begins the first unit that is inside 64 others; in a core text, 8,192.
+    /// With this lexeme begins the first unit that is inside [`crate::GREATEST_DEPTH`] others; in a core text,
+    /// [`crate::GREATEST_CORE_DEPTH`].
     TooDeep { lexeme: u32 },
-    /// With this lexeme begins the first token of a constraint that goes past 8; in a core text past 16, where `x=n` is
-    /// two.
+    /// With this lexeme begins the first token of a constraint that goes past [`crate::MOST_WRITTEN_TOKENS`]; in a core
+    /// text past [`crate::MOST_CONSTRAINT_TOKENS`], where `x=n` is two.
     TooManyTokens { lexeme: u32 },
     /// This name is declared where a declaration of it is in scope.
     DoubleName { lexeme: u32 },
@@ -32,7 +36,7 @@ pub enum ReadFault {
     UnknownName { lexeme: u32 },
     /// This name of a number stands alone or behind `!`, or this name of a signal has a bound.
     WrongKind { lexeme: u32 },
-    /// More than 256 cells are declared.
+    /// More than [`crate::MOST_DECLARED_CELLS`] cells are declared.
     TooManyDeclared,
     /// The program has more than 4,096 nodes.
     TooManyNodes,
