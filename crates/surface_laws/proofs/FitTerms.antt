@@ -17,7 +17,7 @@ use Rattle.program_lexemes.specs.declared.lexer.LexKind.TheVariants as kind
 use Rattle.program_lexemes.specs.declared.bytes.TextForm.{TextForm}
 use Rattle.program_lexemes.specs.Forms.{kind_of, is_minus, are_digits}
 use Rattle.program_lexemes.specs.Lexemes.{Reads, bytes_of_lexeme}
-use Rattle.core_text.specs.GoodNames.{IsName}
+use Rattle.program_lexemes.specs.Names.{IsName}
 use Rattle.program_lexemes.specs.Spellings.{keyword_named, symbol_named}
 use Rattle.program_lexemes.specs.Numbers.{is_number, value_of_number, digits_of, is_long}
 use Rattle.names_and_numbers.specs.Limits.{longest_name, most_digits}
