@@ -13,6 +13,7 @@ use crate::keywords::keyword_of;
 use crate::symbols::symbol_of;
 use names_and_numbers::{MOST_DIGITS, digits_len, is_digit, is_letter, word_len};
 use std::alloc::{AllocError, Global};
+use thiserror::Error;
 
 /// What a lexeme is.
 #[derive(Clone, Copy, Debug, PartialEq, Eq)]
@@ -32,11 +33,13 @@ pub struct Lexeme {
 }
 
 /// Why a text has no lexemes.
-#[derive(Clone, Copy, Debug, PartialEq, Eq)]
+#[derive(Clone, Copy, Debug, PartialEq, Eq, Error)]
 pub enum LexFault {
     /// At this byte begins neither white space nor a lexeme, and it is the first one.
+    #[error("bad byte at offset {offset}")]
     Bad { offset: u32 },
     /// An allocation failed.
+    #[error("out of memory")]
     Memory,
 }
 

@@ -21,3 +21,4 @@ pub mod Texts
 pub mod Parts
 pub mod Builds
 pub mod Laws
+pub mod Messages

@@ -3,9 +3,11 @@ ghost use Rattle.std.specs.Prelude.{◌≡◌};
 ghost use Rattle.tdcc_reader.specs.declared.fault.ReadFault.TheVariants.{Memory};
 
 use std::alloc::AllocError;
+use std::fmt;
+use thiserror::Error;
 
 /// Why a text was not read. Lexemes are numbered from 0.
-#[derive(Clone, Copy, Debug, PartialEq, Eq)]
+#[derive(Clone, Copy, Debug, PartialEq, Eq, Error)]
 pub enum ReadFault {
     /// The text has more bytes than it may have: of a program text, more than
     /// [`program_lexemes::LONGEST_PROGRAM_TEXT`], which the message names; of a core text, more than
@@ -51,5 +53,33 @@ impl From<AllocError> for ReadFault {
 
     fn from(_error: AllocError) -> ReadFault {
         ReadFault::Memory
+    }
+}
+
+impl fmt::Display for ReadFault {
+    ghost use Rattle.std.specs.Prelude.{Some};
+    ghost use Rattle.tdcc_reader.specs.Messages.{fault_message};
+
+    ghost output = { λ fault. Some (fault_message fault) };
+
+    fn fmt<W: fmt::Write>(&self, f: &mut fmt::Formatter<W>) -> fmt::Result {
+        match *self {
+            ReadFault::TextTooLong => f.write_str("text over 65536 bytes"),
+            ReadFault::Lex { offset } => write!(f, "bad byte at offset {offset}"),
+            ReadFault::LongName { lexeme } => write!(f, "long name at lexeme {lexeme}"),
+            ReadFault::LongNumber { lexeme } => write!(f, "long number at lexeme {lexeme}"),
+            ReadFault::Later { lexeme } => write!(f, "not built yet at lexeme {lexeme}"),
+            ReadFault::Syntax { lexeme } => write!(f, "syntax at lexeme {lexeme}"),
+            ReadFault::TooDeep { lexeme } => write!(f, "too deep at lexeme {lexeme}"),
+            ReadFault::TooManyTokens { lexeme } => write!(f, "too many tokens at lexeme {lexeme}"),
+            ReadFault::DoubleName { lexeme } => write!(f, "double name at lexeme {lexeme}"),
+            ReadFault::EmptyDomain { lexeme } => write!(f, "empty domain at lexeme {lexeme}"),
+            ReadFault::UnknownName { lexeme } => write!(f, "unknown name at lexeme {lexeme}"),
+            ReadFault::WrongKind { lexeme } => write!(f, "wrong kind at lexeme {lexeme}"),
+            ReadFault::TooManyDeclared => f.write_str("over 256 declared cells"),
+            ReadFault::TooManyNodes => f.write_str("over 4096 nodes"),
+            ReadFault::TooManyCells => f.write_str("over 1024 cells"),
+            ReadFault::Memory => f.write_str("out of memory"),
+        }
     }
 }
