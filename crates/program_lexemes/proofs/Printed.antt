@@ -1,14 +1,11 @@
 -- Numbers as they are printed are lexemes.
-use Rattle.std.proofs.Common.{◌≡◌, ℕ, pos, neg_ℤ, ◌<◌, ◌≤◌, ◌^◌, List, [], ◌∷◌, length, refl, ap, ◌∙◌, arith, Some, true, false, decimal}
-use Rattle.std.specs.Prelude.{◌&&◌, ◌||◌, nat_le, if◌then◌else◌}
-use Rattle.std.specs.List.{list_all}
-use Rattle.std.specs.Int.{IsInRange}
-use Rattle.std.specs.Str.Parse.{AllDigits, digits_value}
+use Rattle.std.proofs.Common.{◌≡◌, ℕ, ◌<◌, ◌^◌, List, [], ◌∷◌, length, ap, ◌∙◌, arith, Some, decimal}
+use Rattle.std.specs.Str.Parse.{AllDigits}
 use Rattle.std.proofs.lemmas.Str.Parse.{digit_from_value}
 use Rattle.std.proofs.lemmas.Fmt.{decimal_is_IsNumeral}
 use Rattle.program_lexemes.specs.declared.lexer.LexKind.TheVariants as kind
 use Rattle.program_lexemes.specs.declared.bytes.TextForm.{TextForm}
-use Rattle.program_lexemes.specs.Forms.{is_letter, is_digit, are_digits, kind_if, kind_of}
+use Rattle.program_lexemes.specs.Forms.{kind_if, kind_of}
 pub use Rattle.names_and_numbers.proofs.Printed.{decimal_digits, number_of-decimal, number_of-minus_decimal}
 use Rattle.names_and_numbers.proofs.Printed.{range_digit, range_letter, all_is_digit}
 use Rattle.program_lexemes.proofs.LongestLexeme.{by_digit}

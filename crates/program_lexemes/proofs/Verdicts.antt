@@ -1,6 +1,6 @@
 -- Each text has lexemes to its end, or a bad byte.
 use Rattle.std.proofs.Common.{◌≡◌, ℕ, ◌+◌, ◌<◌, ◌≤◌, List, [], ◌++◌, ◌∷◌, length, take, drop, length-drop, refl, ap, sym, ◌∙◌, arith, Option, Some, None, Bool, true, false, zero, suc, subst, inl, inr}
-use Rattle.std.specs.Prelude.{slice_index, ◌⊎◌, IsSome, is_some}
+use Rattle.std.specs.Prelude.{slice_index, ◌⊎◌, is_some}
 use Rattle.std.proofs.lemmas.Bool.{cases_lt}
 use Rattle.program_lexemes.specs.declared.lexer.LexKind.{LexKind}
 use Rattle.program_lexemes.specs.declared.lexer.Lexeme.{Lexeme}

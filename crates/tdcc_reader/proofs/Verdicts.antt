@@ -1,16 +1,14 @@
 -- Each text is accepted, with its surface, or it is refused.
-use Rattle.std.proofs.Common.{◌≡◌, ◌≢◌, ℕ, ◌+◌, ◌<◌, ◌≤◌, List, [], ◌∷◌, ◌++◌, length, get_or, Option, Some, None, Bool, true, false, refl, ap, sym, ◌∙◌, arith, inl, inr}
-use Rattle.std.specs.Prelude.{position, ◌⊎◌, map, ℤ, pos, IsTrue, if◌then◌else◌}
+use Rattle.std.proofs.Common.{◌≡◌, ◌≢◌, ℕ, ◌+◌, ◌<◌, ◌≤◌, List, [], ◌∷◌, ◌++◌, length, get_or, Option, Some, None, Bool, true, false, refl, ap, ◌∙◌, inl, inr}
+use Rattle.std.specs.Prelude.{position, ◌⊎◌, map, ℤ, pos, if◌then◌else◌}
 use Rattle.std.proofs.lemmas.Bool.{cases_lt}
 use Rattle.std.proofs.lemmas.List.{map-append}
 use Rattle.token_system.specs.Domain.{is_cell}
-use Rattle.token_system.specs.declared.cell.Kind.{Kind}
 use Rattle.token_system.specs.declared.cell.Kind.TheVariants as cells
 use Rattle.agent_core.specs.declared.node.CellDecl.{CellDecl}
 use Rattle.program_lexemes.specs.declared.lexer.Lexeme.{Lexeme}
 use Rattle.program_lexemes.specs.declared.lexer.LexKind.{LexKind}
 use Rattle.program_lexemes.specs.declared.lexer.LexKind.TheVariants as kind
-use Rattle.program_lexemes.specs.Lexemes.{AreLexemes, IsBad}
 use Rattle.program_lexemes.proofs.Verdicts as lexer
 use Rattle.program_grammar.specs.Terms.{Term, classes}
 use Rattle.program_grammar.specs.Phrases.{UnitPhrase, Tell, Braces, IfThen, IfElse, LocalSignal, LocalInt, AgentPhrase, Only, Par, NamesPhrase, LastName, MoreName, ItemsPhrase, LastItem, MoreItem, ProgramPhrase, Runs, Signals, Ints}
@@ -32,8 +30,7 @@ use Rattle.tdcc_reader.specs.Surfaces.{Declared, declared, declared_signal, decl
 use Rattle.tdcc_reader.specs.Trees.{form_listing}
 use Rattle.tdcc_reader.specs.LexemeTerms.{terms_of, too_long}
 use Rattle.tdcc_reader.specs.Stages.{is_later}
-use Rattle.tdcc_reader.specs.Refusals.{IsLexed, HasTerms, IsProgramOf, Refuses, RefusesTerms, Accepts}
-use Rattle.tdcc_reader.specs.Texts.{ReadsAs}
+use Rattle.tdcc_reader.specs.Refusals.{IsLexed, HasTerms, IsProgramOf, Refuses, Accepts}
 use Rattle.tdcc_reader.specs.Laws.{HasVerdict}
 use Rattle.tdcc_reader.proofs.LongLexemes.{first_long, first_told}
 

@@ -1,4 +1,3 @@
-use Rattle.program_lexemes.specs.Lexemes.{AreLexemes}
 use Rattle.program_lexemes.proofs.Unique.{unique, lexed_not_bad, one_bad_byte}
 use Rattle.program_lexemes.proofs.Verdicts.{verdict}
 use Rattle.program_lexemes.proofs.laws.lexemes_law.Goals as goal
