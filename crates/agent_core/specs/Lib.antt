@@ -2,6 +2,7 @@ pub mod Programs
 pub mod Agents
 pub mod Listing
 pub mod Names
+pub mod CellNames
 pub mod WellFormed
 pub mod Scope
 pub mod Tellings

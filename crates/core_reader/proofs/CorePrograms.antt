@@ -53,8 +53,8 @@ cells_many phrase s is = sym (length-map s.cells cell_view) ∙ ap length is.cel
 core_tree : (text : List ℕ) (phrase : Phrase) → Accepts dialect.Core text phrase → tree_of (agent_of (program_tree phrase)) ≡ program_tree phrase
 core_tree text phrase a = program_core phrase a.is.spells.allowed
 
--- the forms of an accepted core text are those of an agent's nodes
-forms_of : (text : List ℕ) (phrase : Phrase) (s : SurfaceProgram) → Accepts dialect.Core text phrase → IsSurfaceOf phrase s → s.forms ≡ map form_of_node (core.listing 0 (agent_of (program_tree phrase)))
+-- The forms of an accepted core text are those of an agent's nodes.
+pub forms_of : (text : List ℕ) (phrase : Phrase) (s : SurfaceProgram) → Accepts dialect.Core text phrase → IsSurfaceOf phrase s → s.forms ≡ map form_of_node (core.listing 0 (agent_of (program_tree phrase)))
 forms_of text phrase s a is = is.forms ∙ ap (form_listing 0) (sym (core_tree text phrase a)) ∙ sym (forms_listed 0 (agent_of (program_tree phrase)))
 
 -- They are forms of the core.

@@ -1,19 +1,23 @@
 -- A text is one core program, or refused for one reason, out of memory aside.
 use Rattle.std.proofs.Common.{◌≡◌, ◌≢◌, ◌⊎◌, inl, inr, Result, Ok, Err, ℕ, ◌<◌, ◌≤◌, List, length, Option, Some, None, refl, ap, sym, ◌∙◌, subst}
 use Rattle.std.specs.Prelude.{nat_lt, if◌then◌else◌}
-use Rattle.std.proofs.lemmas.Bool.{lt-ltb, le-ltb}
+use Rattle.std.proofs.lemmas.Bool.{lt-ltb, le-ltb, cases_lt}
 use Rattle.program_grammar.specs.Phrases.{ProgramPhrase as Phrase}
 use Rattle.agent_core.specs.WellFormed.{IsWellFormed}
 use Rattle.agent_core.specs.Programs.{CoreProgram}
+use Rattle.agent_core.specs.Listing.{listing}
 use Rattle.tdcc_reader.specs.declared.dialect.Dialect.TheVariants as dialect
 use Rattle.tdcc_reader.specs.declared.fault.ReadFault.{ReadFault}
 use Rattle.tdcc_reader.specs.declared.fault.ReadFault.TheVariants.{TextTooLong, Lex, LongName, LongNumber, Later, Syntax, TooDeep, TooManyTokens, DoubleName, EmptyDomain, UnknownName, WrongKind, TooManyDeclared, TooManyNodes, TooManyCells, Memory}
 use Rattle.tdcc_reader.specs.Trees.{form_count}
-use Rattle.tdcc_reader.specs.Surfaces.{program_tree, program_cells}
+use Rattle.tdcc_reader.specs.Surfaces.{SurfaceProgram, IsSurfaceOf, program_tree, program_cells}
 use Rattle.tdcc_reader.specs.Refusals.{Accepts, Refuses}
 use Rattle.tdcc_reader.proofs.OneRefusal.{one_accepted, one_refusal, accepted_not_refused}
-use Rattle.core_reader.specs.Readings.{IsCoreOf, AcceptsCore, IsCoreText, RefusesCore, MayAnswer}
-use Rattle.core_reader.proofs.CorePrograms.{core_is_program, one_core}
+use Rattle.tdcc_reader.specs.Laws.{HasVerdict}
+use Rattle.tdcc_reader.proofs.Verdicts.{verdict}
+use Rattle.core_reader.specs.Readings.{IsCoreOf, AcceptsCore, IsCoreText, RefusesCore, HasCoreVerdict, MayAnswer}
+use Rattle.core_reader.proofs.CoreTrees.{agent_of}
+use Rattle.core_reader.proofs.CorePrograms.{core_is_program, one_core, made_core, forms_of}
 
 -- What refuses the text refuses it as a core text.
 pub text_refused : (text : List ℕ) (f : ReadFault) → Refuses dialect.Core text f → RefusesCore text f
@@ -104,6 +108,27 @@ one_core_text text p q (x, a, is) (y, b, are) =
 
 pub text_not_refused : (text : List ℕ) (p : CoreProgram) (f : ReadFault) → f ≢ Memory → IsCoreText text p → RefusesCore text f → ⊥
 text_not_refused text p f m (phrase, a, is) r = accepted_core text phrase f m a r
+
+-- what an accepted text is, by its form_count
+by_cells : (text : List ℕ) (phrase : Phrase) (s : SurfaceProgram) → Accepts dialect.Core text phrase → IsSurfaceOf phrase s → form_count (program_tree phrase) ≤ 4096
+    → (1024 < length (program_cells phrase)) ⊎ (length (program_cells phrase) ≤ 1024) → HasCoreVerdict text
+by_cells text phrase s a is nodes (inl h) = inr (TooManyCells, (λ e. cc), (phrase, a, nodes, h))
+by_cells text phrase s a is nodes (inr h) =
+    let listed = listing 0 (agent_of (program_tree phrase)) in
+    inl (record { cells = s.cells; declared = s.declared; nodes = listed }, (phrase, record { accepts = a; few_nodes = nodes; few_cells = h }, made_core text phrase s listed a is (sym (forms_of text phrase s a is))))
+
+by_nodes : (text : List ℕ) (phrase : Phrase) (s : SurfaceProgram) → Accepts dialect.Core text phrase → IsSurfaceOf phrase s
+    → (4096 < form_count (program_tree phrase)) ⊎ (form_count (program_tree phrase) ≤ 4096) → HasCoreVerdict text
+by_nodes text phrase s a is (inl h) = inr (TooManyNodes, (λ e. cc), (phrase, a, h))
+by_nodes text phrase s a is (inr h) = by_cells text phrase s a is h (cases_lt 1024 (length (program_cells phrase)))
+
+-- A text is a core program, or it is refused.
+pub core_verdict : (text : List ℕ) → HasCoreVerdict text
+core_verdict text = go (verdict dialect.Core text)
+  where
+    go : HasVerdict dialect.Core text → HasCoreVerdict text
+    go (inl (s, (phrase, a, is))) = by_nodes text phrase s a is (cases_lt 4096 (form_count (program_tree phrase)))
+    go (inr (f, not_memory, r)) = inr (f, not_memory, text_refused text f r)
 
 -- Only out of memory is said against a core program.
 pub only_memory : (text : List ℕ) (p : CoreProgram) (f : ReadFault) → IsCoreText text p → RefusesCore text f → f ≡ Memory

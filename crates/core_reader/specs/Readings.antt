@@ -1,12 +1,12 @@
 -- The core programs that core texts are, and why a text is none. This project's own.
-use Rattle.std.specs.Prelude.{◌≡◌, ℕ, ◌<◌, ◌≤◌, List, length, map, Result, MatchResult}
+use Rattle.std.specs.Prelude.{◌≡◌, ◌≢◌, ◌⊎◌, ℕ, ◌<◌, ◌≤◌, List, length, map, Result, MatchResult}
 use Rattle.program_grammar.specs.Phrases.{ProgramPhrase as Phrase}
 use Rattle.agent_core.specs.Agents.{Agent}
 use Rattle.agent_core.specs.Programs.{CoreProgram}
 use Rattle.agent_core.specs.Listing.{listing}
 use Rattle.tdcc_reader.specs.declared.dialect.Dialect.TheVariants as dialect
 use Rattle.tdcc_reader.specs.declared.fault.ReadFault.{ReadFault}
-use Rattle.tdcc_reader.specs.declared.fault.ReadFault.TheVariants.{TooManyNodes, TooManyCells}
+use Rattle.tdcc_reader.specs.declared.fault.ReadFault.TheVariants.{TooManyNodes, TooManyCells, Memory}
 use Rattle.tdcc_reader.specs.Trees.{form_count}
 use Rattle.tdcc_reader.specs.Surfaces.{cell_view, program_tree, program_cells, declared_cells}
 use Rattle.tdcc_reader.specs.Refusals.{Accepts, Refuses}
@@ -35,6 +35,10 @@ abbrev pub RefusesCore : List ℕ → ReadFault → Type 0
 RefusesCore text TooManyNodes = (phrase : Phrase) × Accepts dialect.Core text phrase × (4096 < form_count (program_tree phrase))
 RefusesCore text TooManyCells = (phrase : Phrase) × Accepts dialect.Core text phrase × (form_count (program_tree phrase) ≤ 4096) × (1024 < length (program_cells phrase))
 RefusesCore text fault = Refuses dialect.Core text fault
+
+-- the text is a core program, or it is refused for a reason that is not out of memory
+abbrev pub HasCoreVerdict : List ℕ → Type 0
+HasCoreVerdict text = ((p : CoreProgram) × IsCoreText text p) ⊎ ((f : ReadFault) × (f ≢ Memory) × RefusesCore text f)
 
 -- what `read_core` may answer of the text: the core program that it is, or its refusal, where out of memory says nothing
 abbrev pub MayAnswer : List ℕ → Result CoreProgram ReadFault → Type 0

@@ -8,6 +8,7 @@ use Rattle.token_system.specs.declared.cell.Kind.TheVariants.{Signal, Number}
 use Rattle.token_system.specs.declared.cell.Cell.{Cell}
 use Rattle.token_system.specs.Texts.{text_of}
 use Rattle.agent_core.specs.declared.node.CellDecl.{CellDecl}
+pub use Rattle.agent_core.specs.CellNames.{name_at}
 use Rattle.agent_core.specs.Agents.{Agent, Constraint, Skip, Tell, Then, Else, Par, New, Hence, Next, agent_at}
 use Rattle.agent_core.specs.Programs.{CoreProgram}
 
@@ -28,10 +29,6 @@ decl_text d = cell_text d.cell.kind d
 -- a line for each cell
 abbrev pub decl_lines : List CellDecl → List ℕ
 decl_lines cells = flat_map (λ d. decl_text d ++ codes ";\n") cells
-
--- the name of the cell with this number, as the program has it
-abbrev pub name_at : List CellDecl → ℕ → List ℕ
-name_at cells n = option_map_or (λ d. d.name) (slice_get cells n) []
 
 -- the cell with this number, as it is declared
 abbrev pub decl_at : List CellDecl → ℕ → List ℕ

@@ -1,23 +1,11 @@
 -- Programs whose core texts can be read back: each name can be written, and no two in one scope are alike. This project's own.
-use Rattle.std.specs.Prelude.{◌≡◌, ◌⊎◌, ℕ, ◌<◌, ◌≤◌, List, [], ◌∷◌, length, Some, slice_get}
-use Rattle.program_lexemes.specs.declared.bytes.TextForm.{TextForm}
-use Rattle.program_lexemes.specs.declared.bytes.TextForm.TheVariants as form
-use Rattle.program_lexemes.specs.declared.lexer.LexKind.TheVariants as kind
-use Rattle.program_lexemes.specs.Forms.{kind_of}
+use Rattle.std.specs.Prelude.{◌≡◌, ◌⊎◌, ℕ, ◌<◌, List, [], ◌∷◌, Some, slice_get}
+pub use Rattle.program_lexemes.specs.Names.{IsName, IsCoreName}
 use Rattle.agent_core.specs.declared.node.CellDecl.{CellDecl}
 use Rattle.agent_core.specs.Agents.{Agent, Skip, Tell, Then, Else, Par, New, Hence, Next, agent_at}
 use Rattle.agent_core.specs.Programs.{CoreProgram}
 use Rattle.agent_core.specs.WellFormed.{IsAmong}
-use Rattle.core_text.specs.CoreTexts.{name_at}
-
--- a name that a text of this form can have: a word that is no keyword, or in a core text a dollar and one to nine digits; of 32
--- bytes at most
-pub record IsName (form : TextForm) (name : List ℕ) : Type 0 where
-  pub is : kind_of form name ≡ Some kind.Name
-  pub short : length name ≤ 32
-
-abbrev pub IsCoreName : List ℕ → Type 0
-IsCoreName = IsName form.Core
+use Rattle.agent_core.specs.CellNames.{name_at}
 
 -- the cell is declared, or one of these local ones
 abbrev pub IsVisible : CoreProgram → List ℕ → ℕ → Type 0

@@ -15,7 +15,7 @@ use Rattle.agent_core.specs.Programs.{CoreProgram}
 use Rattle.agent_core.proofs.ListingTrees.{length-listing, root_tree}
 use Rattle.tdcc_reader.specs.declared.dialect.Dialect.TheVariants.{Core}
 use Rattle.tdcc_reader.specs.Dialects.{token_count}
-use Rattle.tdcc_reader.specs.Limits.{first, many_limit, constraint_limit, deep_limit, unit_limit, agent_limit, limit_from, program_limit}
+use Rattle.tdcc_reader.specs.LimitFaults.{first, many_limit, constraint_limit, deep_limit, unit_limit, agent_limit, limit_from, program_limit}
 use Rattle.tdcc_reader.specs.Widths.{token_width, constraint_width, unit_width}
 use Rattle.core_text.specs.CoreTexts.{name_at}
 use Rattle.core_text_laws.proofs.CorePhrases.{token_phrase, ask_phrase, as_unit_phrase, local_phrase, local_at, agent_phrase, decl_phrase, decls_phrase, program_phrase}

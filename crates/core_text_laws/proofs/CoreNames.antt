@@ -16,7 +16,7 @@ use Rattle.agent_core.specs.declared.node.CellDecl.{CellDecl}
 use Rattle.agent_core.specs.Agents.{Agent, Constraint, Skip, Tell, Then, Else, Par, New, Hence, Next, agent_at}
 use Rattle.agent_core.specs.Programs.{CoreProgram}
 use Rattle.agent_core.specs.WellFormed.{IsWellFormed, IsInScope, AreInScope}
-use Rattle.tdcc_reader.specs.Limits.{first}
+use Rattle.tdcc_reader.specs.LimitFaults.{first}
 use Rattle.tdcc_reader.specs.Widths.{token_width, constraint_width, unit_width}
 use Rattle.tdcc_reader.specs.Scope.{Known, known, kind_in_scope, unknown_fault, signal_fault, number_fault, double_fault, domain_fault, declared_fault, token_fault, constraint_fault, unit_fault, agent_fault, fault_from, program_fault}
 use Rattle.core_text.specs.CoreTexts.{name_at}

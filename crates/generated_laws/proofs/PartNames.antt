@@ -5,7 +5,7 @@ use Rattle.token_system.specs.declared.cell.Kind.{Kind}
 use Rattle.token_system.specs.declared.cell.Kind.TheVariants.{Signal, Number}
 use Rattle.agent_core.specs.Strata.{Each}
 use Rattle.tdcc_reader.specs.Widths.{unit_width, names_width, items_width}
-use Rattle.tdcc_reader.specs.Limits.{first}
+use Rattle.tdcc_reader.specs.LimitFaults.{first}
 use Rattle.tdcc_reader.specs.Scope.{Known, kind_in_scope, unknown_fault, signal_fault, number_fault, signal_use, number_use, unit_fault, agent_fault, names_known, items_known, names_fault, items_fault, program_fault}
 use Rattle.trace_text.specs.Generated.{signal_name, number_name}
 use Rattle.core_text_laws.proofs.CoreLimits.{none_both}

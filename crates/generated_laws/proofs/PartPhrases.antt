@@ -3,7 +3,7 @@ use Rattle.std.proofs.Common.{◌≡◌, ℕ, ◌+◌, pos, List, [], ◌∷◌,
 use Rattle.std.specs.List.{range_with_len}
 use Rattle.program_grammar.specs.Phrases as g
 use Rattle.tdcc_reader.specs.declared.dialect.Dialect.TheVariants.{Program}
-use Rattle.tdcc_reader.specs.Limits.{unit_limit, agent_limit, program_limit}
+use Rattle.tdcc_reader.specs.LimitFaults.{unit_limit, agent_limit, program_limit}
 use Rattle.tdcc_reader.specs.Widths.{unit_width}
 use Rattle.tdcc_reader.specs.Surfaces.{Declared, unit_cells, agent_cells}
 use Rattle.trace_text.specs.Generated.{signal_name, number_name}

@@ -10,3 +10,4 @@ pub mod Beginnings
 pub mod Fronts
 pub mod Places
 pub mod Unambiguous
+pub mod Verdicts

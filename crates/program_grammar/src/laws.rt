@@ -1,9 +1,9 @@
 // The laws of the grammar: facts about its definitions, each proved as the contract of a function with no body.
-ghost use Rattle.std.specs.Prelude.{◌≡◌, ◌↔◌, List, [], map};
+ghost use Rattle.std.specs.Prelude.{◌≡◌, ◌⊎◌, ◌↔◌, ℕ, List, [], map};
 ghost use Rattle.program_grammar.specs.Alternatives.{AProgram, Begins};
 ghost use Rattle.program_grammar.specs.Events.{event_at, numbered, program_events, matched_terms};
 ghost use Rattle.program_grammar.specs.Phrases.{ProgramPhrase};
-ghost use Rattle.program_grammar.specs.Programs.{BeginsProgram};
+ghost use Rattle.program_grammar.specs.Programs.{BeginsProgram, IsFault, IsProgram};
 ghost use Rattle.program_grammar.specs.Spelling.{program};
 ghost use Rattle.program_grammar.specs.Terms.{Term};
 ghost use Rattle.program_grammar.specs.declared.words.Language.{Language};
@@ -26,4 +26,14 @@ pub fn places_law()
     ensures terms { (p : ProgramPhrase) → matched_terms (program_events p) ≡ program p [] }
     ensures events { (p : ProgramPhrase) →
         map (event_at (program p [])) (numbered 0 (program_events p)) ≡ program_events p }
+{}
+
+/// Each list of terms is a program, or has a syntax fault, at one place, and never both.
+pub fn faults_law()
+    ensures some { (language : Language) (terms : List Term)
+        → IsProgram language terms ⊎ ((place : ℕ) × IsFault language terms place) }
+    ensures one { (language : Language) (terms : List Term) (m n : ℕ)
+        → IsFault language terms m → IsFault language terms n → m ≡ n }
+    ensures not_both { (language : Language) (terms : List Term) (place : ℕ)
+        → IsProgram language terms → IsFault language terms place → ⊥ }
 {}

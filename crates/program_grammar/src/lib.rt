@@ -13,7 +13,7 @@ mod table;
 mod tests;
 mod words;
 
-pub use laws::{beginnings_law, places_law, unambiguity_law};
+pub use laws::{beginnings_law, faults_law, places_law, unambiguity_law};
 pub use machine::{ParseFault, Step, parse};
 pub use stack_symbols::StackSymbol;
 pub use words::{Language, Word};

@@ -12,6 +12,7 @@ use crate::stack_symbols::{StackSymbol, may_be_absent};
 use crate::table::parts_after;
 use crate::words::{Language, Word, is_permitted};
 use std::alloc::{AllocError, Global};
+use thiserror::Error;
 
 /// What happened to a part.
 #[derive(Clone, Copy, Debug, PartialEq, Eq)]
@@ -23,11 +24,13 @@ pub enum Step {
 }
 
 /// Why words were not read.
-#[derive(Clone, Copy, Debug, PartialEq, Eq)]
+#[derive(Clone, Copy, Debug, PartialEq, Eq, Error)]
 pub enum ParseFault {
     /// The words are no program. The place is the length of their longest prefix that begins one.
+    #[error("syntax at lexeme {place}")]
     Syntax { place: u32 },
     /// An allocation failed.
+    #[error("out of memory")]
     Memory,
 }
 

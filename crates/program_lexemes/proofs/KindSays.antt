@@ -1,18 +1,18 @@
 -- What the kind of some bytes says of them.
-use Rattle.std.proofs.Common.{◌≡◌, ℕ, List, [], ◌∷◌, refl, ap, sym, ◌∙◌, subst, Option, Some, None, Bool, true, false}
+use Rattle.std.proofs.Common.{◌≡◌, ℕ, List, [], ◌∷◌, refl, ap, ◌∙◌, subst, Option, Some, None, Bool, true, false}
 use Rattle.std.specs.Prelude.{◌&&◌, if◌then◌else◌}
 use Rattle.std.specs.List.{list_all}
-use Rattle.std.proofs.lemmas.Bool.{eqb-true}
 use Rattle.program_lexemes.specs.declared.lexer.LexKind.{LexKind}
 use Rattle.program_lexemes.specs.declared.lexer.LexKind.TheVariants as kind
 use Rattle.program_lexemes.specs.declared.bytes.TextForm.{TextForm}
 use Rattle.program_lexemes.specs.Spellings.{is_keyword, is_symbol}
 use Rattle.program_lexemes.specs.Forms.{is_letter, is_digit, is_word_byte, is_minus, is_dollar, are_digits, are_few_digits, word_kind, kind_if, kind_of}
+use Rattle.names_and_numbers.proofs.Printed.{no_minus}
 use Rattle.program_lexemes.specs.Numbers.{is_number}
 use Rattle.program_lexemes.proofs.LongestLexeme.{kinds}
 
 -- where this kind comes, its test holds
-held : (t : Bool) (k l : LexKind) → kind_if t k ≡ Some l → (t ≡ true) × (k ≡ l)
+pub held : (t : Bool) (k l : LexKind) → kind_if t k ≡ Some l → (t ≡ true) × (k ≡ l)
 held true k l e = (refl, cc)
 held false k l e = let e' : ◌≡◌ {A = Option LexKind} None (Some l) = e in cc
 
@@ -32,14 +32,6 @@ word_says b bs = go (is_keyword (b ∷ bs)) refl
     go : (t : Bool) → is_keyword (b ∷ bs) ≡ t → Says (if t then kind.Keyword else kind.Name) b bs
     go true e = e
     go false e = tt
-
--- no digit is a minus
-pub no_minus : (b : ℕ) → is_digit b ≡ true → is_minus b ≡ false
-no_minus b d = go (is_minus b) refl
-  where
-    go : (t : Bool) → is_minus b ≡ t → t ≡ false
-    go true e = let w : false ≡ true = ap is_digit (sym (eqb-true b 45 e)) ∙ d in cc
-    go false e = refl
 
 digits_number : (b : ℕ) (bs : List ℕ) → is_digit b ≡ true → list_all is_digit bs ≡ true → is_number (b ∷ bs) ≡ true
 digits_number b bs d all = ap (λ t. are_digits (if t then bs else b ∷ bs)) (no_minus b d) ∙ ap (λ t. t && list_all is_digit bs) d ∙ all

@@ -4,6 +4,7 @@ pub mod LongestLexeme
 pub mod Reading
 pub mod Unique
 pub mod Joined
-pub mod Decimals
 pub mod KindSays
 pub mod Printed
+pub mod Verdicts
+pub mod NameForms

@@ -1,21 +1,13 @@
 -- The prefixes of a list of bytes that pass a test, byte by byte, as digits, and as at most nine digits.
-use Rattle.std.proofs.Common.{◌≡◌, ℕ, ◌<◌, ◌≤◌, List, [], ◌∷◌, length, take, refl, ap, ◌∙◌, arith, Bool, true, false, zero, suc, min}
+use Rattle.std.proofs.Common.{◌≡◌, ℕ, ◌<◌, ◌≤◌, List, [], ◌∷◌, length, take, refl, ap, arith, Bool, true, false, zero, suc, min}
 use Rattle.std.specs.Prelude.{if◌then◌else◌, ◌&&◌, nat_le}
 use Rattle.std.specs.List.{list_all}
 use Rattle.std.proofs.lemmas.List.{length-take-le}
+pub use Rattle.names_and_numbers.proofs.Bools.{and_left, and_right}
+use Rattle.names_and_numbers.proofs.Bools.{both_true}
+use Rattle.names_and_numbers.specs.Limits.{most_digits}
 use Rattle.program_lexemes.specs.Forms.{is_digit, are_digits, are_few_digits}
 use Rattle.program_lexemes.specs.Prefixes.{prefix_len, IsLongestPrefix, NoPrefix}
-
-pub and_left : (a b : Bool) → (a && b) ≡ true → a ≡ true
-and_left true b e = refl
-and_left false b e = cc
-
-pub and_right : (a b : Bool) → (a && b) ≡ true → b ≡ true
-and_right true b e = e
-and_right false b e = cc
-
-both_true : (a b : Bool) → a ≡ true → b ≡ true → (a && b) ≡ true
-both_true a b e f = ap (λ t. t && b) e ∙ f
 
 prefix_passes : (p : ℕ → Bool) (bs : List ℕ) (m : ℕ) → m ≤ prefix_len p bs → list_all p (take m bs) ≡ true
 prefix_passes p bs zero h = refl
@@ -82,27 +74,27 @@ pub no_digits_front : (bs : List ℕ) → prefix_len is_digit bs ≡ 0 → NoPre
 no_digits_front bs e = λ m h. not_true (are_digits (take m bs)) (no_digits bs m e h)
 
 -- at most nine of them
-few : (m : ℕ) → m ≤ 9 → nat_le m 9 ≡ true
+few : (m : ℕ) → m ≤ most_digits → nat_le m most_digits ≡ true
 few m h = grind arith
 
-few_le : (m : ℕ) → nat_le m 9 ≡ true → m ≤ 9
+few_le : (m : ℕ) → nat_le m most_digits ≡ true → m ≤ most_digits
 few_le m h = grind arith
 
-pub few_digits_front : (bs : List ℕ) → 0 < min (prefix_len is_digit bs) 9 → IsLongestPrefix are_few_digits bs (min (prefix_len is_digit bs) 9)
+pub few_digits_front : (bs : List ℕ) → 0 < min (prefix_len is_digit bs) most_digits → IsLongestPrefix are_few_digits bs (min (prefix_len is_digit bs) most_digits)
 few_digits_front bs h = record {
   within = within;
-  passes = both_true (are_digits (take (min (prefix_len is_digit bs) 9) bs)) (nat_le (length (take (min (prefix_len is_digit bs) 9) bs)) 9) (digits_pass bs (min (prefix_len is_digit bs) 9) h (omega arith)) (few (length (take (min (prefix_len is_digit bs) 9) bs)) (omega (arith, length-take-le (min (prefix_len is_digit bs) 9) bs within)));
+  passes = both_true (are_digits (take (min (prefix_len is_digit bs) most_digits) bs)) (nat_le (length (take (min (prefix_len is_digit bs) most_digits) bs)) most_digits) (digits_pass bs (min (prefix_len is_digit bs) most_digits) h (omega arith)) (few (length (take (min (prefix_len is_digit bs) most_digits) bs)) (omega (arith, length-take-le (min (prefix_len is_digit bs) most_digits) bs within)));
   longest = longest;
 }
   where
-    within : min (prefix_len is_digit bs) 9 ≤ length bs
+    within : min (prefix_len is_digit bs) most_digits ≤ length bs
     within = omega (arith, prefix_within is_digit bs)
 
-    longest : (m : ℕ) → m ≤ length bs → are_few_digits (take m bs) ≡ true → m ≤ min (prefix_len is_digit bs) 9
+    longest : (m : ℕ) → m ≤ length bs → are_few_digits (take m bs) ≡ true → m ≤ min (prefix_len is_digit bs) most_digits
     longest m h e =
-        let all : m ≤ prefix_len is_digit bs = digits_longest bs m h (and_left (are_digits (take m bs)) (nat_le (length (take m bs)) 9) e) in
-        let short : length (take m bs) ≤ 9 = few_le (length (take m bs)) (and_right (are_digits (take m bs)) (nat_le (length (take m bs)) 9) e) in
+        let all : m ≤ prefix_len is_digit bs = digits_longest bs m h (and_left (are_digits (take m bs)) (nat_le (length (take m bs)) most_digits) e) in
+        let short : length (take m bs) ≤ most_digits = few_le (length (take m bs)) (and_right (are_digits (take m bs)) (nat_le (length (take m bs)) most_digits) e) in
         omega (arith, all, short, length-take-le m bs h)
 
-pub no_few_digits_front : (bs : List ℕ) → min (prefix_len is_digit bs) 9 ≡ 0 → NoPrefix are_few_digits bs
-no_few_digits_front bs e = λ m h. ap (λ t. t && nat_le (length (take m bs)) 9) (no_digits_front bs (omega arith) m h)
+pub no_few_digits_front : (bs : List ℕ) → min (prefix_len is_digit bs) most_digits ≡ 0 → NoPrefix are_few_digits bs
+no_few_digits_front bs e = λ m h. ap (λ t. t && nat_le (length (take m bs)) most_digits) (no_digits_front bs (omega arith) m h)

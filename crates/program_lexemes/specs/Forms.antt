@@ -1,45 +1,22 @@
 -- Which bytes are a lexeme, and of which kind, in a program text and in a core text. This project's own syntax.
-use Rattle.std.specs.Prelude.{ℕ, List, [], ◌∷◌, length, Bool, false, ◌&&◌, ◌||◌, nat_le, nat_eq, if◌then◌else◌, Option, Some, None}
+use Rattle.std.specs.Prelude.{ℕ, List, [], ◌∷◌, Bool, false, ◌||◌, nat_eq, if◌then◌else◌, Option, Some, None}
 use Rattle.std.specs.List.{list_all}
+pub use Rattle.names_and_numbers.specs.Names.{is_letter, is_digit, is_word_byte}
+pub use Rattle.names_and_numbers.specs.Numbers.{is_minus, are_digits, are_few_digits}
 use Rattle.program_lexemes.specs.Spellings.{is_keyword, is_symbol}
 use Rattle.program_lexemes.specs.declared.lexer.LexKind.{LexKind}
 use Rattle.program_lexemes.specs.declared.lexer.LexKind.TheVariants as kind
 use Rattle.program_lexemes.specs.declared.bytes.TextForm.{TextForm}
 use Rattle.program_lexemes.specs.declared.bytes.TextForm.TheVariants.{Program, Core}
 
--- A to Z, a to z
-abbrev pub is_letter : ℕ → Bool
-is_letter b = (nat_le 65 b && nat_le b 90) || (nat_le 97 b && nat_le b 122)
-
--- 0 to 9
-abbrev pub is_digit : ℕ → Bool
-is_digit b = nat_le 48 b && nat_le b 57
-
--- a letter, a digit or _
-abbrev pub is_word_byte : ℕ → Bool
-is_word_byte b = is_letter b || is_digit b || nat_eq b 95
-
 -- a space, tab, carriage return or line feed
 abbrev pub is_white : ℕ → Bool
 is_white b = nat_eq b 32 || nat_eq b 9 || nat_eq b 13 || nat_eq b 10
-
--- -
-abbrev pub is_minus : ℕ → Bool
-is_minus b = nat_eq b 45
 
 -- $, which begins a name in core texts alone
 abbrev pub is_dollar : TextForm → ℕ → Bool
 is_dollar Program b = false
 is_dollar Core b = nat_eq b 36
-
--- digits, one at least
-abbrev pub are_digits : List ℕ → Bool
-are_digits [] = false
-are_digits (d ∷ ds) = list_all is_digit (d ∷ ds)
-
--- one to nine digits
-abbrev pub are_few_digits : List ℕ → Bool
-are_few_digits bytes = are_digits bytes && nat_le (length bytes) 9
 
 -- a word is a keyword or a name
 abbrev pub word_kind : List ℕ → LexKind

@@ -1,10 +1,6 @@
 -- The prefixes of a list of bytes that pass a test.
-use Rattle.std.specs.Prelude.{◌≡◌, ℕ, ◌≤◌, suc, List, [], ◌∷◌, length, take, Bool, true, false, if◌then◌else◌}
-
--- how many first bytes pass
-abbrev pub prefix_len : (ℕ → Bool) → List ℕ → ℕ
-prefix_len test [] = 0
-prefix_len test (b ∷ bs) = if test b then suc (prefix_len test bs) else 0
+use Rattle.std.specs.Prelude.{◌≡◌, ℕ, ◌≤◌, List, length, take, Bool, true, false}
+pub use Rattle.names_and_numbers.specs.Prefixes.{prefix_len}
 
 -- so many first bytes pass together, and no more do
 pub record IsLongestPrefix (test : List ℕ → Bool) (bytes : List ℕ) (size : ℕ) : Type 0 where

@@ -2,18 +2,18 @@
 ghost use Rattle.std.specs.Prelude.{◌≡◌, ◌≤◌, All, IfErr, IfOk, List, MatchBool, MatchOption, MatchResult, false, length, take, true, vec_len};
 ghost use Rattle.program_lexemes.specs.Forms.{word_kind};
 ghost use Rattle.program_lexemes.specs.Lexemes.{AreLexemes, IsBad, IsLexFault, IsIn, IsLongest, NoLexeme};
+ghost use Rattle.program_lexemes.specs.Limits.{longest_core_text};
 ghost use Rattle.program_lexemes.specs.Prefixes.{IsLongestPrefix, NoPrefix};
 ghost use Rattle.program_lexemes.specs.Spellings.{is_symbol};
 ghost use Rattle.program_lexemes.specs.declared.lexer.LexFault as LexFault;
 ghost use Rattle.program_lexemes.specs.declared.lexer.Lexeme.{Lexeme};
 
-use crate::bytes::{TextForm, digits_len, is_digit, is_dollar, is_letter, is_white, word_len};
+use crate::bytes::{TextForm, is_dollar, is_white};
 use crate::keywords::keyword_of;
 use crate::symbols::symbol_of;
+use names_and_numbers::{MOST_DIGITS, digits_len, is_digit, is_letter, word_len};
 use std::alloc::{AllocError, Global};
-
-/// The most bytes that a text may have.
-pub const MAX_TEXT: usize = 4_194_304;
+use thiserror::Error;
 
 /// What a lexeme is.
 #[derive(Clone, Copy, Debug, PartialEq, Eq)]
@@ -33,11 +33,13 @@ pub struct Lexeme {
 }
 
 /// Why a text has no lexemes.
-#[derive(Clone, Copy, Debug, PartialEq, Eq)]
+#[derive(Clone, Copy, Debug, PartialEq, Eq, Error)]
 pub enum LexFault {
     /// At this byte begins neither white space nor a lexeme, and it is the first one.
+    #[error("bad byte at offset {offset}")]
     Bad { offset: u32 },
     /// An allocation failed.
+    #[error("out of memory")]
     Memory,
 }
 
@@ -95,7 +97,7 @@ fn longest(form: TextForm, bytes: &[u8]) -> Option<(LexKind, usize)>
         };
     }
     if is_dollar(form, *first) {
-        let digits = digits_len(rest).min(9);
+        let digits = digits_len(rest).min(MOST_DIGITS);
         return if digits == 0 {
             None
         } else {
@@ -112,7 +114,7 @@ fn read_lexemes(
     form: TextForm,
     text: &[u8],
 ) -> Result<Result<Vec<Lexeme>, u32>, AllocError>
-    requires { length text.now ≤ MAX_TEXT }
+    requires { length text.now ≤ longest_core_text }
     ensures { IfOk result (λ read.
         MatchResult read (λ ls. AreLexemes form text.now ls.items) (IsBad form text.now)) }
 {
@@ -144,7 +146,7 @@ fn read_lexemes(
 /// `Bad` with the offset of the first byte at which neither white space nor a lexeme begins; `Memory` where an
 /// allocation fails.
 pub fn lexemes(alloc: Global, form: TextForm, text: &[u8]) -> Result<Vec<Lexeme>, LexFault>
-    requires { length text.now ≤ MAX_TEXT }
+    requires { length text.now ≤ longest_core_text }
 
     ensures found { IfOk result (λ ls. AreLexemes form text.now ls.items) }
     // What stands in the text under a lexeme is of its kind.

@@ -6,6 +6,7 @@ mod bytes;
 mod keywords;
 mod laws;
 mod lexer;
+mod limits;
 mod readers;
 mod symbols;
 #[cfg(test)]
@@ -13,7 +14,8 @@ mod tests;
 
 pub use bytes::TextForm;
 pub use keywords::{Keyword, keyword_of};
-pub use laws::{joined_law, kinds_law, numerals_law, spellings_law};
-pub use lexer::{LexFault, LexKind, Lexeme, MAX_TEXT, lexemes};
-pub use readers::{is_long, lexeme_bytes, number_value};
+pub use laws::{joined_law, kinds_law, lexemes_law, limits_law, names_law, numerals_law, spellings_law};
+pub use lexer::{LexFault, LexKind, Lexeme, lexemes};
+pub use limits::{LONGEST_CORE_TEXT, LONGEST_PROGRAM_TEXT};
+pub use readers::{is_long, lexeme_bytes};
 pub use symbols::{Symbol, symbol_of};

@@ -128,14 +128,6 @@ fn a_lexeme_says_its_bytes(rt: HostRuntime) {
 }
 
 #[test]
-fn a_number_has_its_value(rt: HostRuntime) {
-    assert_eq!(rt; number_value(b"-0"), 0);
-    assert_eq!(rt; number_value(b"007"), 7);
-    assert_eq!(rt; number_value(b"-12"), -12);
-    assert_eq!(rt; number_value(b"999999999"), 999_999_999);
-}
-
-#[test]
 fn a_long_lexeme_is_told(rt: HostRuntime) {
     assert!(rt; !is_long(LexKind::Number, b"-123456789"));
     assert!(rt; is_long(LexKind::Number, b"0123456789"));

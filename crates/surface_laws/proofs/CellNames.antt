@@ -6,7 +6,7 @@ use Rattle.token_system.specs.declared.cell.Kind.TheVariants as kind
 use Rattle.program_lexemes.specs.declared.bytes.TextForm.{TextForm}
 use Rattle.program_grammar.specs.Phrases.{UnitPhrase, Tell, Braces, IfThen, IfElse, LocalSignal, LocalInt, AgentPhrase, Only, Par, NamesPhrase, LastName, MoreName, ItemsPhrase, LastItem, MoreItem, ProgramPhrase, Runs, Signals, Ints}
 use Rattle.program_grammar.specs.Phrases as phrase
-use Rattle.core_text.specs.GoodNames.{IsName}
+use Rattle.program_lexemes.specs.Names.{IsName}
 use Rattle.tdcc_reader.specs.Surfaces.{Declared, declared, declared_signal, declared_number, unit_cells, agent_cells, names_cells, items_cells, program_cells}
 use Rattle.surface_laws.proofs.FitPhrases.{ItemFit, UnitFit, AgentFit, NamesFit, ItemsFit, ProgramFit}
 

@@ -6,7 +6,7 @@ use Rattle.program_grammar.specs.Phrases.{TokenPhrase, AtLeast, AtMost, Exactly,
 use Rattle.program_grammar.specs.Phrases as phrases
 use Rattle.program_grammar.specs.Spelling.{token, constraint, unit, agent, names, items, program}
 use Rattle.token_system.specs.Domain.{is_bound}
-use Rattle.core_text.specs.GoodNames.{IsName}
+use Rattle.program_lexemes.specs.Names.{IsName}
 use Rattle.surface_laws.proofs.FitTerms.{AreFit}
 
 -- the number of a token may stand in a bound

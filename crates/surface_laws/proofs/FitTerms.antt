@@ -17,16 +17,18 @@ use Rattle.program_lexemes.specs.declared.lexer.LexKind.TheVariants as kind
 use Rattle.program_lexemes.specs.declared.bytes.TextForm.{TextForm}
 use Rattle.program_lexemes.specs.Forms.{kind_of, is_minus, are_digits}
 use Rattle.program_lexemes.specs.Lexemes.{Reads, bytes_of_lexeme}
+use Rattle.program_lexemes.specs.Names.{IsName}
+use Rattle.program_lexemes.specs.Spellings.{keyword_named, symbol_named}
 use Rattle.program_lexemes.specs.Numbers.{is_number, value_of_number, digits_of, is_long}
-use Rattle.program_lexemes.proofs.Decimals.{digits_all}
+use Rattle.names_and_numbers.specs.Limits.{longest_name, most_digits}
+use Rattle.names_and_numbers.proofs.Decimals.{digits_all}
 use Rattle.program_lexemes.proofs.KindSays.{kind_number}
 use Rattle.program_lexemes.proofs.Reading.{lexeme_in}
 use Rattle.program_grammar.specs.Terms.{Term, Name, Number, Skip}
 use Rattle.token_system.specs.Domain.{is_bound}
-use Rattle.core_text.specs.GoodNames.{IsName}
 use Rattle.tdcc_reader.specs.declared.dialect.Dialect.{Dialect}
 use Rattle.tdcc_reader.specs.Dialects.{text_form}
-use Rattle.tdcc_reader.specs.LexemeTerms.{keyword_term, symbol_term, keyword_with, symbol_with, term_of_lexeme, terms_of, too_long}
+use Rattle.tdcc_reader.specs.LexemeTerms.{keyword_term, symbol_term, term_of_lexeme, terms_of, too_long}
 use Rattle.tdcc_reader.specs.Refusals.{HasTerms}
 
 -- a number of the term may stand in a bound, and a name of it can be written
@@ -46,14 +48,14 @@ small_negative : (v : ℕ) → v < 10 ^ 9 → is_bound (neg_ℤ (pos v)) ≡ tru
 small_negative zero h = refl
 small_negative (suc v) h = let k : suc v < 1000000000 = h in let g : IsTrue (is_bound (negsuc v)) = grind (arith, ints) in g
 
-digits_small : (ds : List ℕ) → are_digits ds ≡ true → nat_lt 9 (length ds) ≡ false → digits_value 10 ds < 10 ^ 9
-digits_small ds e h = digits_value_short (numerals_by_value (AllDigits 10) tells_digits) ds 9 (digits_all ds e) (ltb-false 9 (length ds) h)
+digits_small : (ds : List ℕ) → are_digits ds ≡ true → nat_lt most_digits (length ds) ≡ false → digits_value 10 ds < 10 ^ 9
+digits_small ds e h = digits_value_short (numerals_by_value (AllDigits 10) tells_digits) ds 9 (digits_all ds e) (ltb-false most_digits (length ds) h)
 
-number_small : (bytes : List ℕ) → is_number bytes ≡ true → nat_lt 9 (length (digits_of bytes)) ≡ false → is_bound (value_of_number bytes) ≡ true
+number_small : (bytes : List ℕ) → is_number bytes ≡ true → nat_lt most_digits (length (digits_of bytes)) ≡ false → is_bound (value_of_number bytes) ≡ true
 number_small [] e h = cc
 number_small (b ∷ bs) e h = go (is_minus b) e h
   where
-    go : (m : Bool) → are_digits (if m then bs else b ∷ bs) ≡ true → nat_lt 9 (length (if m then bs else b ∷ bs)) ≡ false
+    go : (m : Bool) → are_digits (if m then bs else b ∷ bs) ≡ true → nat_lt most_digits (length (if m then bs else b ∷ bs)) ≡ false
         → is_bound (if m then neg_ℤ (pos (digits_value 10 bs)) else pos (digits_value 10 (b ∷ bs))) ≡ true
     go true d l = small_negative (digits_value 10 bs) (digits_small bs d l)
     go false d l = small_natural (digits_value 10 (b ∷ bs)) (digits_small (b ∷ bs) d l)
@@ -95,10 +97,10 @@ symbol_fit form (Some symbol.Equal) = tt
 symbol_fit form (Some symbol.Colon) = tt
 
 said_fit : (form : TextForm) (k : LexKind) (bytes : List ℕ) → kind_of form bytes ≡ Some k → is_long k bytes ≡ false → IsFit form (term_of_lexeme k bytes)
-said_fit form kind.Name bytes e h = record { is = e; short = ltb-false 32 (length bytes) h }
-said_fit form kind.Keyword bytes e h = keyword_fit form (keyword_with bytes)
+said_fit form kind.Name bytes e h = record { is = e; short = ltb-false longest_name (length bytes) h }
+said_fit form kind.Keyword bytes e h = keyword_fit form (keyword_named bytes)
 said_fit form kind.Number bytes e h = number_small bytes (kind_number form bytes e) h
-said_fit form kind.Symbol bytes e h = symbol_fit form (symbol_with bytes)
+said_fit form kind.Symbol bytes e h = symbol_fit form (symbol_named bytes)
 
 -- the test does not pass here, nor behind
 kept : (b : Bool) (n : ℕ) (o : Option ℕ) → cond b (Some n) o ≡ None → (b ≡ false) × (o ≡ None)

@@ -10,7 +10,7 @@ use Rattle.token_system.specs.declared.cell.Kind.TheVariants as kind
 use Rattle.agent_core.specs.declared.node.CellDecl.{CellDecl}
 use Rattle.agent_core.specs.Programs.{CoreProgram}
 use Rattle.agent_core.specs.WellFormed.{IsAmong}
-use Rattle.core_text.specs.CoreTexts.{name_at}
+use Rattle.agent_core.specs.CellNames.{name_at}
 use Rattle.program_grammar.specs.Phrases.{UnitPhrase, Tell, Braces, IfThen, IfElse, LocalSignal, LocalInt, AgentPhrase, Only, Par, NamesPhrase, LastName, MoreName, ItemsPhrase, LastItem, MoreItem, ProgramPhrase, Runs, Signals, Ints}
 use Rattle.program_grammar.specs.Phrases as phrase
 use Rattle.tdcc_reader.specs.Widths.{constraint_width, unit_width, agent_width, names_width, items_width}

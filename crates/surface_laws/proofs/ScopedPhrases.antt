@@ -15,7 +15,7 @@ use Rattle.program_grammar.specs.Phrases.{TokenPhrase, AtLeast, AtMost, Exactly,
 use Rattle.program_grammar.specs.Phrases as phrase
 use Rattle.tdcc_reader.specs.declared.dialect.Dialect.{Dialect}
 use Rattle.tdcc_reader.specs.Widths.{token_width, constraint_width, unit_width, agent_width, names_width, items_width}
-use Rattle.tdcc_reader.specs.Limits.{first, constraint_limit, unit_limit, agent_limit, limit_from, program_limit}
+use Rattle.tdcc_reader.specs.LimitFaults.{first, constraint_limit, unit_limit, agent_limit, limit_from, program_limit}
 use Rattle.tdcc_reader.specs.Scope.{Known, known, kind_in_scope, unknown_fault, signal_fault, number_fault, token_fault, constraint_fault, declared_fault, item_fault, unit_fault, agent_fault, names_known, names_fault, items_known, items_fault, fault_from, program_fault}
 use Rattle.tdcc_reader.specs.Surfaces.{Placed, placed, cell_in_scope, Declared, declared_signal, declared_number, cell_view, token_tokens, constraint_of, unit_cells, agent_cells, unit_tree, agent_tree, names_cells, names_scope, items_cells, items_scope, tree_from, program_tree, declared_cells, program_cells}
 use Rattle.tdcc_reader.proofs.Asks.{none_left, none_right, ask_kept, inner}

@@ -7,7 +7,7 @@ use Rattle.program_lexemes.specs.declared.bytes.TextForm.TheVariants as forms
 use Rattle.program_grammar.specs.Phrases.{ProgramPhrase}
 use Rattle.agent_core.specs.declared.node.CellDecl.{CellDecl}
 use Rattle.agent_core.specs.WellFormed.{count_up}
-use Rattle.core_text.specs.GoodNames.{IsName}
+use Rattle.program_lexemes.specs.Names.{IsName}
 use Rattle.tdcc_reader.specs.declared.dialect.Dialect.{Dialect}
 use Rattle.tdcc_reader.specs.declared.dialect.Dialect.TheVariants as dialects
 use Rattle.tdcc_reader.specs.Dialects.{text_form}

@@ -5,8 +5,9 @@ use Rattle.program_lexemes.specs.declared.bytes.TextForm.{TextForm}
 use Rattle.agent_core.specs.declared.node.CellDecl.{CellDecl}
 use Rattle.agent_core.specs.Programs.{CoreProgram}
 use Rattle.agent_core.specs.WellFormed.{IsAmong, IsConstraint, count_up}
-use Rattle.core_text.specs.CoreTexts.{name_at}
-use Rattle.core_text.specs.GoodNames.{IsName}
+use Rattle.agent_core.specs.CellNames.{name_at}
+use Rattle.program_lexemes.specs.Names.{IsName}
+use Rattle.tdcc_reader.specs.Limits.{most_declared_cells}
 use Rattle.tdcc_reader.specs.Surfaces.{SurfaceProgram}
 use Rattle.tdcc_reader.specs.Trees.{Tree, Skip, Tell, Then, Else, Par, New, Hence, Next, Always, When, Watch, Time, form_listing}
 
@@ -68,7 +69,7 @@ pub record IsWellFormedSurface (form : TextForm) (s : SurfaceProgram) : Type 0 w
   pub tree : Tree
   pub forms : s.forms ≡ form_listing 0 tree
   pub within : s.declared ≤ length s.cells
-  pub few : s.declared ≤ 256
+  pub few : s.declared ≤ most_declared_cells
   pub locals : new_cells tree ≡ count_up s.declared (length s.cells - s.declared)
   pub scoped : IsScopedTree (bare s) [] tree
   pub names : (n : ℕ) (d : CellDecl) → slice_get s.cells n ≡ Some d → IsName form d.name

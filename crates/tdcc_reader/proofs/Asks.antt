@@ -5,6 +5,7 @@ use Rattle.std.proofs.lemmas.Bool.{ltb-false}
 use Rattle.std.proofs.lemmas.List.Elements.{All-cons, All-append, All-nil}
 use Rattle.program_grammar.specs.Phrases.{TokenPhrase, AtLeast, AtMost, Exactly, ConstraintPhrase, One, Both, UnitPhrase, Tell, Braces, IfThen, IfElse, LocalSignal, LocalInt, AgentPhrase, Only, Par, ProgramPhrase, Runs, Signals, Ints}
 use Rattle.program_grammar.specs.Phrases as phrase
+use Rattle.tdcc_reader.specs.Limits.{most_constraint_tokens}
 use Rattle.tdcc_reader.specs.declared.dialect.Dialect.{Dialect}
 use Rattle.tdcc_reader.specs.declared.dialect.Dialect.TheVariants as dialects
 use Rattle.tdcc_reader.specs.declared.limits.Limit.{Limit}
@@ -12,7 +13,7 @@ use Rattle.tdcc_reader.specs.declared.limits.Limit.TheVariants.{TooManyTokens}
 use Rattle.tdcc_reader.specs.declared.flat_form.FlatFormKind.TheVariants as kind
 use Rattle.tdcc_reader.specs.Dialects.{max_tokens, equation_count, token_count}
 use Rattle.tdcc_reader.specs.Widths.{token_width, constraint_width, unit_width, agent_width, names_width, items_width}
-use Rattle.tdcc_reader.specs.Limits.{first, many_limit, constraint_limit, deep_limit, unit_limit, agent_limit, limit_from, program_limit}
+use Rattle.tdcc_reader.specs.LimitFaults.{first, many_limit, constraint_limit, deep_limit, unit_limit, agent_limit, limit_from, program_limit}
 use Rattle.tdcc_reader.specs.Surfaces.{Placed, placed, token_tokens, constraint_of, unit_cells, unit_tree, agent_tree, names_cells, names_scope, items_cells, items_scope, tree_from, program_tree}
 use Rattle.tdcc_reader.specs.FlatForms.{entry, flat_forms, IsConstraintList, IsWholeEntry}
 
@@ -38,7 +39,7 @@ abbrev forms_most : Dialect → ℕ → ℕ
 forms_most dialects.Program n = 2 * n
 forms_most dialects.Core n = n
 
-most_forms : (dialect : Dialect) (n : ℕ) → n ≤ max_tokens dialect → forms_most dialect n ≤ 16
+most_forms : (dialect : Dialect) (n : ℕ) → n ≤ max_tokens dialect → forms_most dialect n ≤ most_constraint_tokens
 most_forms dialects.Program n h = omega arith
 most_forms dialects.Core n h = h
 
@@ -62,7 +63,7 @@ token_counted dialect s (AtLeast x n) = one_counted dialect
 token_counted dialect s (AtMost x n) = one_counted dialect
 token_counted dialect s (Exactly x n) = two_counted dialect
 
-constraint_some : (dialect : Dialect) (s : List Placed) (c : ConstraintPhrase) (n at : ℕ) → constraint_limit dialect c n at ≡ None → (1 ≤ length (constraint_of s c)) × (length (constraint_of s c) + forms_most dialect n ≤ 16)
+constraint_some : (dialect : Dialect) (s : List Placed) (c : ConstraintPhrase) (n at : ℕ) → constraint_limit dialect c n at ≡ None → (1 ≤ length (constraint_of s c)) × (length (constraint_of s c) + forms_most dialect n ≤ most_constraint_tokens)
 constraint_some dialect s (One t) n at e =
     let m = most_forms dialect (n + token_count dialect t) (many_kept dialect (n + token_count dialect t) at e) in
     let (x, y) = token_counted dialect s t in let z = y n in (x, omega arith)

@@ -5,6 +5,8 @@ use Rattle.std.proofs.lemmas.List.{length-map}
 use Rattle.program_grammar.specs.Phrases.{ProgramPhrase}
 use Rattle.program_grammar.specs.Spelling.{program}
 use Rattle.agent_core.specs.declared.node.CellDecl.{CellDecl}
+use Rattle.program_lexemes.specs.Limits.{longest_core_text}
+use Rattle.tdcc_reader.specs.Limits.{most_declared_cells}
 use Rattle.tdcc_reader.specs.declared.dialect.Dialect.{Dialect}
 use Rattle.tdcc_reader.specs.declared.flat_form.FlatForm.{FlatForm}
 use Rattle.tdcc_reader.specs.declared.surface.Form.{Form}
@@ -13,7 +15,7 @@ use Rattle.tdcc_reader.specs.FlatForms.{IsWholeEntry, IsWholeFlatForm, flat_form
 use Rattle.tdcc_reader.specs.BuildPass.{Built}
 use Rattle.tdcc_reader.specs.Builds.{IsBuilt, IsChecked, IsReadyToBuild}
 use Rattle.program_grammar.specs.Terms.{Term}
-use Rattle.tdcc_reader.specs.Limits.{program_limit}
+use Rattle.tdcc_reader.specs.LimitFaults.{program_limit}
 use Rattle.tdcc_reader.specs.Scope.{program_fault}
 use Rattle.tdcc_reader.specs.Refusals.{HasTerms, IsProgramOf, RefusesTerms, Refuses}
 use Rattle.tdcc_reader.specs.declared.fault.ReadFault.{ReadFault}
@@ -35,7 +37,7 @@ ready_whole dialect text p b ds r e k d h =
     let l = length-map ds flat_form_view in
     subst IsWholeEntry (get_or-map flat_form_view ds k d) (all k (flat_form_view d) (omega arith))
 
-pub ready_few : (dialect : Dialect) (text : List ℕ) (p : ProgramPhrase) (b : Built) → IsReadyToBuild dialect text p b → b.declared ≤ 256
+pub ready_few : (dialect : Dialect) (text : List ℕ) (p : ProgramPhrase) (b : Built) → IsReadyToBuild dialect text p b → b.declared ≤ most_declared_cells
 ready_few dialect text p b r = let d = r.accepts.declared in let e = r.built.declared in omega arith
 
 -- the surface of the program
@@ -54,10 +56,10 @@ terms_long : (dialect : Dialect) (ts : List Term) (p : ProgramPhrase) → IsProg
 terms_long dialect ts p is = ap length is.spells.spelled
 
 -- a program of few terms has few cells
-pub few_cells : (dialect : Dialect) (ts : List Term) (p : ProgramPhrase) → IsProgramOf dialect ts p → length ts ≤ 4194304 → length (program_cells p) ≤ 4294967295
+pub few_cells : (dialect : Dialect) (ts : List Term) (p : ProgramPhrase) → IsProgramOf dialect ts p → length ts ≤ longest_core_text → length (program_cells p) ≤ 4294967295
 few_cells dialect ts p is h = let e = terms_long dialect ts p is in let f = cells_fit p in omega arith
 
-pub all_checked : (dialect : Dialect) (p : ProgramPhrase) (b : Built) → program_limit dialect p ≡ None → program_fault p ≡ None → IsBuilt p b → b.declared ≤ 256 → IsChecked dialect p b
+pub all_checked : (dialect : Dialect) (p : ProgramPhrase) (b : Built) → program_limit dialect p ≡ None → program_fault p ≡ None → IsBuilt p b → b.declared ≤ most_declared_cells → IsChecked dialect p b
 all_checked dialect p b within named built few = record {
   within = within;
   named = named;
@@ -65,10 +67,10 @@ all_checked dialect p b within named built few = record {
   built = built;
 }
 
-pub many_declared : (p : ProgramPhrase) (b : Built) → IsBuilt p b → 256 < b.declared → 256 < length (declared_cells p)
+pub many_declared : (p : ProgramPhrase) (b : Built) → IsBuilt p b → most_declared_cells < b.declared → most_declared_cells < length (declared_cells p)
 many_declared p b built many = let e = built.declared in omega arith
 
-pub all_ready : (dialect : Dialect) (text : List ℕ) (ts : List Term) (p : ProgramPhrase) (b : Built) → HasTerms dialect text ts → length ts ≤ 4194304 → IsProgramOf dialect ts p → IsChecked dialect p b → IsReadyToBuild dialect text p b
+pub all_ready : (dialect : Dialect) (text : List ℕ) (ts : List Term) (p : ProgramPhrase) (b : Built) → HasTerms dialect text ts → length ts ≤ longest_core_text → IsProgramOf dialect ts p → IsChecked dialect p b → IsReadyToBuild dialect text p b
 all_ready dialect text ts p b has few is checked = record {
   accepts = record { terms = ts; has = has; is = is; within = checked.within; named = checked.named; declared = checked.declared };
   few = (let e = terms_long dialect ts p is in omega arith);
@@ -95,5 +97,5 @@ terms_refused dialect text ts fault.TooManyCells h r = (ts, h, r)
 terms_refused dialect text ts fault.Memory h r = tt
 
 -- a program that declares few cells is not refused for them
-pub not_many : {X : Type 0} (p : ProgramPhrase) (b : Built) → IsBuilt p b → 256 < b.declared → length (declared_cells p) ≤ 256 → X
+pub not_many : {X : Type 0} (p : ProgramPhrase) (b : Built) → IsBuilt p b → most_declared_cells < b.declared → length (declared_cells p) ≤ most_declared_cells → X
 not_many p b built many few = let e = built.declared in absurd (omega arith)

@@ -1,6 +1,6 @@
 -- The first of several faults.
 use Rattle.std.proofs.Common.{◌≡◌, refl, Option, None, Some}
-use Rattle.tdcc_reader.specs.Limits.{first}
+use Rattle.tdcc_reader.specs.LimitFaults.{first}
 
 pub first_assoc : {A : Type 0} (f g h : Option A) → first (first f g) h ≡ first f (first g h)
 first_assoc None g h = refl

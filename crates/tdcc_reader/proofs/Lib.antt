@@ -15,3 +15,4 @@ pub mod Listings
 pub mod Asks
 pub mod Finished
 pub mod OneRefusal
+pub mod Verdicts

@@ -7,6 +7,7 @@ use Rattle.program_grammar.specs.Phrases.{TokenPhrase, AtLeast, AtMost, Exactly,
 use Rattle.program_grammar.specs.Phrases as phrase
 use Rattle.program_grammar.specs.declared.stack_symbols.StackSymbol.TheVariants.{OneUnit, MoreUnits, OneToken, MoreTokens, Bound, ExactNumber, Branch, TheClose, EndTell, EndBody, EndLocal, TheDo, TheWatching, TheOn, EndWatch, EndTimed}
 use Rattle.program_grammar.specs.Events.{Event, Matches, Skips, token_events, constraint_events, unit_events, agent_events, names_events, items_events, program_events}
+use Rattle.tdcc_reader.specs.Limits.{most_constraint_tokens}
 use Rattle.tdcc_reader.specs.declared.dialect.Dialect.{Dialect}
 use Rattle.tdcc_reader.specs.declared.dialect.Dialect.TheVariants as dialects
 use Rattle.tdcc_reader.specs.declared.limits.Limit.{Limit}
@@ -14,7 +15,7 @@ use Rattle.tdcc_reader.specs.declared.limits.Limit.TheVariants.{TooManyTokens}
 use Rattle.tdcc_reader.specs.declared.limits.Limits.{Limits}
 use Rattle.tdcc_reader.specs.Dialects.{equation_count, token_count}
 use Rattle.tdcc_reader.specs.Widths.{token_width, constraint_width, unit_width, agent_width, names_width, items_width}
-use Rattle.tdcc_reader.specs.Limits.{first, many_limit, constraint_limit, deep_limit, unit_limit, agent_limit, limit_from, program_limit}
+use Rattle.tdcc_reader.specs.LimitFaults.{first, many_limit, constraint_limit, deep_limit, unit_limit, agent_limit, limit_from, program_limit}
 use Rattle.tdcc_reader.specs.Passes.{over_events}
 use Rattle.tdcc_reader.specs.LimitPass.{limits, limit_pass}
 use Rattle.tdcc_reader.proofs.Firsts.{first_assoc}
@@ -44,7 +45,7 @@ equation_limited dialects.Core k rest at d n f =
     ∙ same dialects.Core rest d (n + 2) (omega arith)
     (first_assoc f (many_limit dialects.Core (n + 1) at) (many_limit dialects.Core (n + 2) ((at + 1) - 1))
     ∙ ap (λ x. first f (first (many_limit dialects.Core (n + 1) at) (many_limit dialects.Core (n + 2) x))) here
-    ∙ ap (first f) (both_limits (nat_lt 16 (n + 1)) (nat_lt 16 (n + 2)) (TooManyTokens at) (one_more 16 n)))
+    ∙ ap (first f) (both_limits (nat_lt most_constraint_tokens (n + 1)) (nat_lt most_constraint_tokens (n + 2)) (TooManyTokens at) (one_more most_constraint_tokens n)))
 
 token_limited : (dialect : Dialect) (t : TokenPhrase) (rest : List Event) (at d n : ℕ) (f : Option Limit)
     → over dialect at (token_events OneToken t rest) d n f ≡ over dialect (at + token_width t) rest d (n + token_count dialect t) (first f (many_limit dialect (n + token_count dialect t) at))

@@ -11,6 +11,7 @@ use Rattle.program_grammar.specs.Terms.{Term, classes}
 use Rattle.program_grammar.specs.Phrases.{ProgramPhrase}
 use Rattle.program_grammar.specs.Programs.{IsFault}
 use Rattle.program_grammar.proofs.Unambiguous.{one_program}
+use Rattle.tdcc_reader.specs.Limits.{most_declared_cells}
 use Rattle.tdcc_reader.specs.declared.dialect.Dialect.{Dialect}
 use Rattle.tdcc_reader.specs.declared.fault.ReadFault.{ReadFault}
 use Rattle.tdcc_reader.specs.declared.fault.ReadFault.TheVariants.{TextTooLong, Lex, LongName, LongNumber, Later, Syntax, TooDeep, TooManyTokens, DoubleName, EmptyDomain, UnknownName, WrongKind, TooManyDeclared, TooManyNodes, TooManyCells, Memory}
@@ -19,7 +20,7 @@ use Rattle.tdcc_reader.specs.declared.limits.Limit.TheVariants as limit
 use Rattle.tdcc_reader.specs.declared.naming.NameFault.{NameFault}
 use Rattle.tdcc_reader.specs.declared.naming.NameFault.TheVariants as naming
 use Rattle.tdcc_reader.specs.Dialects.{max_bytes, text_form, language}
-use Rattle.tdcc_reader.specs.Limits.{first, program_limit}
+use Rattle.tdcc_reader.specs.LimitFaults.{first, program_limit}
 use Rattle.tdcc_reader.specs.Scope.{program_fault}
 use Rattle.tdcc_reader.specs.Surfaces.{SurfaceProgram, declared_cells}
 use Rattle.tdcc_reader.specs.LexemeTerms.{terms_of, too_long}
@@ -60,7 +61,7 @@ name_refusal (naming.UnknownName place) = UnknownName place
 name_refusal (naming.WrongKind place) = WrongKind place
 
 abbrev many_refusal : ℕ → Option ReadFault
-many_refusal n = if nat_lt 256 n then Some TooManyDeclared else None
+many_refusal n = if nat_lt most_declared_cells n then Some TooManyDeclared else None
 
 -- why a program is refused, where it is
 abbrev refusal_of : Option Limit → Option NameFault → ℕ → Option ReadFault
@@ -150,11 +151,11 @@ unlimited : (dialect : Dialect) (p : ProgramPhrase) → program_limit dialect p 
 unlimited dialect p within named =
     sym (ap (λ x. refusal_of x (program_fault p) (length (declared_cells p))) within ∙ ap (λ x. refusal_of None x (length (declared_cells p))) named)
 
-many : (n : ℕ) → 256 < n → Some TooManyDeclared ≡ many_refusal n
-many n h = sym (ap (λ b. if b then Some TooManyDeclared else None) (lt-ltb 256 n h))
+many : (n : ℕ) → most_declared_cells < n → Some TooManyDeclared ≡ many_refusal n
+many n h = sym (ap (λ b. if b then Some TooManyDeclared else None) (lt-ltb most_declared_cells n h))
 
-few : (n : ℕ) → n ≤ 256 → None ≡ many_refusal n
-few n h = sym (ap (λ b. if b then Some TooManyDeclared else None) (le-ltb 256 n h))
+few : (n : ℕ) → n ≤ most_declared_cells → None ≡ many_refusal n
+few n h = sym (ap (λ b. if b then Some TooManyDeclared else None) (le-ltb most_declared_cells n h))
 
 -- what a refusal says is found
 refused : (dialect : Dialect) (text : List ℕ) (f : ReadFault) → f ≢ Memory → Refuses dialect text f → Found dialect text (Some f)

@@ -6,8 +6,9 @@ use Rattle.program_lexemes.specs.declared.keywords.Keyword.{Keyword}
 use Rattle.program_lexemes.specs.declared.keywords.Keyword.TheVariants as keyword
 use Rattle.program_lexemes.specs.declared.symbols.Symbol.{Symbol}
 use Rattle.program_lexemes.specs.declared.symbols.Symbol.TheVariants as symbol
-use Rattle.program_lexemes.specs.Spellings.{keyword_bytes, symbol_bytes, keywords, symbols}
-use Rattle.tdcc_reader.specs.LexemeTerms.{keyword_with, symbol_with, keyword_term, symbol_term}
+use Rattle.program_lexemes.specs.Spellings.{keyword_bytes, symbol_bytes, keywords, symbols, keyword_named, symbol_named}
+use Rattle.program_lexemes.proofs.Spelled.{named-keyword_bytes, named-symbol_bytes}
+use Rattle.tdcc_reader.specs.LexemeTerms.{keyword_term, symbol_term}
 use Rattle.tdcc_reader.specs.Passes.{by_term}
 use Rattle.program_grammar.specs.Terms.{class_of}
 use Rattle.program_grammar.specs.declared.words.Word.{Word}
@@ -21,50 +22,16 @@ none_with {K = K} f bs (k ∷ ks) h = go (bytes_eq bs (f k)) (bytes_eq-Decides b
     go true is rest = absurd (h k (is refl))
     go false is rest = rest
 
-keyword_is : (k : Keyword) → keyword_with (keyword_bytes k) ≡ Some k
-keyword_is keyword.Signal = refl
-keyword_is keyword.Int = refl
-keyword_is keyword.Set = refl
-keyword_is keyword.In = refl
-keyword_is keyword.Skip = refl
-keyword_is keyword.If = refl
-keyword_is keyword.Then = refl
-keyword_is keyword.Else = refl
-keyword_is keyword.New = refl
-keyword_is keyword.Hence = refl
-keyword_is keyword.Next = refl
-keyword_is keyword.Always = refl
-keyword_is keyword.When = refl
-keyword_is keyword.Do = refl
-keyword_is keyword.Watching = refl
-keyword_is keyword.Time = refl
-keyword_is keyword.On = refl
+pub keyword_found : (bs : List ℕ) (k : Keyword) → bs ≡ keyword_bytes k → keyword_named bs ≡ Some k
+keyword_found bs k e = ap keyword_named e ∙ named-keyword_bytes k
 
-symbol_is : (s : Symbol) → symbol_with (symbol_bytes s) ≡ Some s
-symbol_is symbol.Semicolon = refl
-symbol_is symbol.Comma = refl
-symbol_is symbol.Range = refl
-symbol_is symbol.Ampersand = refl
-symbol_is symbol.Bars = refl
-symbol_is symbol.OpenBrace = refl
-symbol_is symbol.CloseBrace = refl
-symbol_is symbol.Bang = refl
-symbol_is symbol.Hash = refl
-symbol_is symbol.GreaterEqual = refl
-symbol_is symbol.LessEqual = refl
-symbol_is symbol.Equal = refl
-symbol_is symbol.Colon = refl
+pub symbol_found : (bs : List ℕ) (s : Symbol) → bs ≡ symbol_bytes s → symbol_named bs ≡ Some s
+symbol_found bs s e = ap symbol_named e ∙ named-symbol_bytes s
 
-pub keyword_found : (bs : List ℕ) (k : Keyword) → bs ≡ keyword_bytes k → keyword_with bs ≡ Some k
-keyword_found bs k e = ap keyword_with e ∙ keyword_is k
-
-pub symbol_found : (bs : List ℕ) (s : Symbol) → bs ≡ symbol_bytes s → symbol_with bs ≡ Some s
-symbol_found bs s e = ap symbol_with e ∙ symbol_is s
-
-pub keyword_none : (bs : List ℕ) → ((k : Keyword) → bs ≡ keyword_bytes k → ⊥) → keyword_with bs ≡ None
+pub keyword_none : (bs : List ℕ) → ((k : Keyword) → bs ≡ keyword_bytes k → ⊥) → keyword_named bs ≡ None
 keyword_none bs h = none_with keyword_bytes bs keywords h
 
-pub symbol_none : (bs : List ℕ) → ((s : Symbol) → bs ≡ symbol_bytes s → ⊥) → symbol_with bs ≡ None
+pub symbol_none : (bs : List ℕ) → ((s : Symbol) → bs ≡ symbol_bytes s → ⊥) → symbol_named bs ≡ None
 symbol_none bs h = none_with symbol_bytes bs symbols h
 
 -- a keyword is neither a name nor a number, and so is a symbol

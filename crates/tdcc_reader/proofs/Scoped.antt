@@ -11,7 +11,7 @@ use Rattle.token_system.specs.declared.cell.Kind.TheVariants as kind
 use Rattle.tdcc_reader.specs.declared.naming.NameFault.{NameFault}
 use Rattle.tdcc_reader.specs.declared.naming.Waiting.TheVariants as waiting
 use Rattle.tdcc_reader.specs.Widths.{token_width, constraint_width, unit_width, agent_width, names_width, items_width}
-use Rattle.tdcc_reader.specs.Limits.{first}
+use Rattle.tdcc_reader.specs.LimitFaults.{first}
 use Rattle.tdcc_reader.specs.Scope.{Known, known, kind_in_scope, any_use, signal_fault, number_fault, token_fault, constraint_fault, unit_fault, agent_fault, declared_fault, item_fault, domain_fault, names_fault, names_known, items_fault, items_known, fault_from, program_fault}
 use Rattle.tdcc_reader.specs.Passes.{over_events}
 use Rattle.tdcc_reader.specs.NamingPass as pass

@@ -1,5 +1,6 @@
 -- Forms while they are read: with the place of a par's right part told from the par's own.
 use Rattle.std.specs.Prelude.{ℕ, ◌+◌, ◌≤◌, min, List, [], ◌∷◌, ◌++◌, length}
+use Rattle.tdcc_reader.specs.Limits.{most_constraint_tokens}
 use Rattle.tdcc_reader.specs.declared.surface.Form.{Form}
 use Rattle.tdcc_reader.specs.declared.surface.Form.TheVariants as form
 use Rattle.tdcc_reader.specs.declared.flat_form.FlatForm as code
@@ -61,7 +62,7 @@ forms_at at (e ∷ es) = form_at at e.kind e.ask ∷ forms_at (at + 1) es
 
 -- an ask of a form has 1 to 16 tokens
 abbrev pub IsConstraintList : Constraint → Type 0
-IsConstraintList c = (1 ≤ length c) × (length c ≤ 16)
+IsConstraintList c = (1 ≤ length c) × (length c ≤ most_constraint_tokens)
 
 -- the flat_form has such an ask, where its form has one
 abbrev pub HasConstraint : FlatFormKind → Constraint → Type 0

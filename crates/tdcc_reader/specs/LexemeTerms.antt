@@ -1,5 +1,5 @@
 -- What the lexemes of a text say: the term of each, by its kind and its bytes. This project's own.
-use Rattle.std.specs.Prelude.{List, map, Option, option_map, unwrap_or, find, bytes_eq, Bool}
+use Rattle.std.specs.Prelude.{ℕ, List, map, option_map, unwrap_or, Bool}
 use Rattle.program_lexemes.specs.declared.lexer.LexKind.{LexKind}
 use Rattle.program_lexemes.specs.declared.lexer.LexKind.TheVariants as kind
 use Rattle.program_lexemes.specs.declared.lexer.Lexeme.{Lexeme}
@@ -7,11 +7,10 @@ use Rattle.program_lexemes.specs.declared.keywords.Keyword.{Keyword}
 use Rattle.program_lexemes.specs.declared.keywords.Keyword.TheVariants as keyword
 use Rattle.program_lexemes.specs.declared.symbols.Symbol.{Symbol}
 use Rattle.program_lexemes.specs.declared.symbols.Symbol.TheVariants as symbol
-use Rattle.program_lexemes.specs.Spellings.{keyword_bytes, symbol_bytes, keywords, symbols}
+use Rattle.program_lexemes.specs.Spellings.{keyword_named, symbol_named}
 use Rattle.program_lexemes.specs.Lexemes.{bytes_of_lexeme}
 use Rattle.program_lexemes.specs.Numbers.{value_of_number, is_long}
 use Rattle.program_grammar.specs.Terms.{Term, Name, Number, Signal, Int, Set, In, Skip, If, Then, Else, New, Hence, Next, Always, When, Do, Watching, Time, On, Semicolon, Comma, Range, Ampersand, Bars, OpenBrace, CloseBrace, Bang, Hash, GreaterEqual, LessEqual, Equal, Colon}
-use Rattle.std.specs.Prelude.{ℕ}
 
 -- the term of a keyword
 abbrev pub keyword_term : Keyword → Term
@@ -49,21 +48,13 @@ symbol_term symbol.LessEqual = LessEqual
 symbol_term symbol.Equal = Equal
 symbol_term symbol.Colon = Colon
 
--- the keyword with these bytes
-abbrev pub keyword_with : List ℕ → Option Keyword
-keyword_with bytes = find (λ k. bytes_eq bytes (keyword_bytes k)) keywords
-
--- the symbol with these bytes
-abbrev pub symbol_with : List ℕ → Option Symbol
-symbol_with bytes = find (λ s. bytes_eq bytes (symbol_bytes s)) symbols
-
 -- What a lexeme of this kind with these bytes term_of_lexeme. Each keyword and each symbol has a term of its own; the bytes of no
 -- keyword and of no symbol stand for `skip`, and no lexeme of these kinds has such bytes.
 abbrev pub term_of_lexeme : LexKind → List ℕ → Term
 term_of_lexeme kind.Name bytes = Name bytes
-term_of_lexeme kind.Keyword bytes = unwrap_or (option_map keyword_term (keyword_with bytes)) Skip
+term_of_lexeme kind.Keyword bytes = unwrap_or (option_map keyword_term (keyword_named bytes)) Skip
 term_of_lexeme kind.Number bytes = Number (value_of_number bytes)
-term_of_lexeme kind.Symbol bytes = unwrap_or (option_map symbol_term (symbol_with bytes)) Skip
+term_of_lexeme kind.Symbol bytes = unwrap_or (option_map symbol_term (symbol_named bytes)) Skip
 
 -- the term of a lexeme of the text
 abbrev pub term_of : List ℕ → Lexeme → Term

@@ -1,10 +1,11 @@
 pub mod LexemeTerms
 pub mod Stages
+pub mod Limits
 pub mod Dialects
 pub mod Refusals
 pub mod TermViews
 pub mod Widths
-pub mod Limits
+pub mod LimitFaults
 pub mod Passes
 pub mod LimitPass
 pub mod Scope
@@ -20,3 +21,4 @@ pub mod Texts
 pub mod Parts
 pub mod Builds
 pub mod Laws
+pub mod Messages

@@ -10,7 +10,7 @@ use Rattle.tdcc_reader.specs.declared.dialect.Dialect.{Dialect}
 use Rattle.tdcc_reader.specs.declared.dialect.Dialect.TheVariants.{Program, Core}
 use Rattle.tdcc_reader.specs.declared.limits.Limit.{Limit}
 use Rattle.tdcc_reader.specs.declared.limits.Limits.{Limits}
-use Rattle.tdcc_reader.specs.Limits.{first, many_limit, deep_limit}
+use Rattle.tdcc_reader.specs.LimitFaults.{first, many_limit, deep_limit}
 use Rattle.tdcc_reader.specs.Passes.{Pass}
 
 abbrev pub limits : ℕ → ℕ → Option Limit → Limits

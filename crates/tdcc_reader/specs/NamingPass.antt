@@ -9,7 +9,7 @@ use Rattle.tdcc_reader.specs.declared.naming.NameFault.{NameFault}
 use Rattle.tdcc_reader.specs.declared.naming.Waiting.{Waiting}
 use Rattle.tdcc_reader.specs.declared.naming.Waiting.TheVariants as waiting
 use Rattle.tdcc_reader.specs.declared.naming.Naming as pass
-use Rattle.tdcc_reader.specs.Limits.{first}
+use Rattle.tdcc_reader.specs.LimitFaults.{first}
 use Rattle.tdcc_reader.specs.Scope.{Known, known, kind_in_scope, signal_fault, number_fault, declared_fault, domain_fault, signal_use, any_use}
 use Rattle.tdcc_reader.specs.Passes.{Pass, by_term, less_first}
 

@@ -8,13 +8,14 @@ use Rattle.program_lexemes.specs.Lexemes.{AreLexemes, IsBad}
 use Rattle.program_grammar.specs.Terms.{Term, classes}
 use Rattle.program_grammar.specs.Phrases.{ProgramPhrase}
 use Rattle.program_grammar.specs.Programs.{Spells, IsFault}
+use Rattle.tdcc_reader.specs.Limits.{most_declared_cells}
 use Rattle.tdcc_reader.specs.declared.dialect.Dialect.{Dialect}
 use Rattle.tdcc_reader.specs.declared.fault.ReadFault.{ReadFault}
 use Rattle.tdcc_reader.specs.declared.fault.ReadFault.TheVariants.{TextTooLong, Lex, LongName, LongNumber, Later, Syntax, TooDeep, TooManyTokens, DoubleName, EmptyDomain, UnknownName, WrongKind, TooManyDeclared, Memory}
 use Rattle.tdcc_reader.specs.declared.limits.Limit.TheVariants as limit
 use Rattle.tdcc_reader.specs.declared.naming.NameFault.TheVariants as naming
 use Rattle.tdcc_reader.specs.Dialects.{max_bytes, text_form, language}
-use Rattle.tdcc_reader.specs.Limits.{program_limit}
+use Rattle.tdcc_reader.specs.LimitFaults.{program_limit}
 use Rattle.tdcc_reader.specs.Scope.{program_fault}
 use Rattle.tdcc_reader.specs.Surfaces.{declared_cells}
 use Rattle.tdcc_reader.specs.LexemeTerms.{terms_of, too_long}
@@ -73,7 +74,7 @@ RefusesTerms dialect ts (Syntax place) = (position is_later (classes ts) ≡ Non
 RefusesTerms dialect ts Memory = Unit {0}
 RefusesTerms dialect ts (TooDeep place) = (p : ProgramPhrase) × IsProgramOf dialect ts p × RefusesLimits dialect p (TooDeep place)
 RefusesTerms dialect ts (TooManyTokens place) = (p : ProgramPhrase) × IsProgramOf dialect ts p × RefusesLimits dialect p (TooManyTokens place)
-RefusesTerms dialect ts TooManyDeclared = (p : ProgramPhrase) × IsProgramOf dialect ts p × (program_limit dialect p ≡ None) × (program_fault p ≡ None) × (256 < length (declared_cells p))
+RefusesTerms dialect ts TooManyDeclared = (p : ProgramPhrase) × IsProgramOf dialect ts p × (program_limit dialect p ≡ None) × (program_fault p ≡ None) × (most_declared_cells < length (declared_cells p))
 RefusesTerms dialect ts fault = (p : ProgramPhrase) × IsProgramOf dialect ts p × (program_limit dialect p ≡ None) × RefusesNames p fault
 
 -- the text is refused: it is too long, has a bad byte or a lexeme that is too long, or its terms are refused; want of
@@ -93,4 +94,4 @@ pub record Accepts (dialect : Dialect) (text : List ℕ) (p : ProgramPhrase) : T
   pub is : IsProgramOf dialect terms p
   pub within : program_limit dialect p ≡ None
   pub named : program_fault p ≡ None
-  pub declared : length (declared_cells p) ≤ 256
+  pub declared : length (declared_cells p) ≤ most_declared_cells

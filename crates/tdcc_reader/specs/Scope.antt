@@ -8,7 +8,7 @@ use Rattle.program_grammar.specs.Phrases.{TokenPhrase, AtLeast, AtMost, Exactly,
 use Rattle.program_grammar.specs.Phrases as phrase
 use Rattle.tdcc_reader.specs.declared.naming.NameFault.{NameFault}
 use Rattle.tdcc_reader.specs.declared.naming.NameFault.TheVariants.{DoubleName, EmptyDomain, UnknownName, WrongKind}
-use Rattle.tdcc_reader.specs.Limits.{first}
+use Rattle.tdcc_reader.specs.LimitFaults.{first}
 use Rattle.tdcc_reader.specs.Widths.{token_width, constraint_width, unit_width, agent_width, names_width, items_width}
 
 -- a name in scope, and the kind of its cell

@@ -3,7 +3,22 @@ ghost use Rattle.std.specs.Prelude.{◌≡◌};
 ghost use Rattle.tdcc_reader.specs.Dialects.{language, max_bytes, max_depth, max_tokens, text_form};
 
 use program_grammar::Language;
-use program_lexemes::TextForm;
+use program_lexemes::{LONGEST_CORE_TEXT, LONGEST_PROGRAM_TEXT, TextForm};
+
+/// The greatest depth of a unit of a program text.
+pub const GREATEST_DEPTH: usize = 64;
+
+/// The greatest depth of a unit of a core text.
+pub const GREATEST_CORE_DEPTH: usize = 8_192;
+
+/// The most tokens of a constraint as it is written in a program text.
+pub const MOST_WRITTEN_TOKENS: usize = 8;
+
+/// The most tokens of a constraint, where a written `x=n` is two.
+pub const MOST_CONSTRAINT_TOKENS: usize = 16;
+
+/// The most cells that a program may declare.
+pub const MOST_DECLARED_CELLS: usize = 256;
 
 /// What a text is written in.
 #[derive(Clone, Copy, Debug, PartialEq, Eq)]
@@ -21,8 +36,8 @@ impl Dialect {
         ensures { result ≡ max_bytes self }
     {
         match self {
-            Dialect::Program => 65_536,
-            Dialect::Core => 4_194_304,
+            Dialect::Program => LONGEST_PROGRAM_TEXT,
+            Dialect::Core => LONGEST_CORE_TEXT,
         }
     }
 
@@ -51,8 +66,8 @@ impl Dialect {
         ensures { result ≡ max_depth self }
     {
         match self {
-            Dialect::Program => 64,
-            Dialect::Core => 8_192,
+            Dialect::Program => GREATEST_DEPTH,
+            Dialect::Core => GREATEST_CORE_DEPTH,
         }
     }
 
@@ -61,8 +76,8 @@ impl Dialect {
         ensures { result ≡ max_tokens self }
     {
         match self {
-            Dialect::Program => 8,
-            Dialect::Core => 16,
+            Dialect::Program => MOST_WRITTEN_TOKENS,
+            Dialect::Core => MOST_CONSTRAINT_TOKENS,
         }
     }
 }

@@ -2,6 +2,7 @@
 ghost use Rattle.std.specs.Prelude.{◌≡◌, ◌≤◌, ◌<◌, ◌^◌, All, IfErr, IfOk, List, MatchResult, Some, length, map, position, vec_len};
 ghost use Rattle.program_grammar.specs.Terms.{Term as GrammarTerm};
 ghost use Rattle.program_lexemes.specs.Lexemes.{IsIn};
+ghost use Rattle.program_lexemes.specs.Limits.{longest_core_text};
 ghost use Rattle.program_lexemes.specs.declared.lexer.Lexeme.{Lexeme};
 ghost use Rattle.tdcc_reader.specs.declared.fault.ReadFault as ReadFault;
 ghost use Rattle.tdcc_reader.specs.Dialects.{text_form};
@@ -12,14 +13,14 @@ ghost use Rattle.tdcc_reader.specs.TermViews.{term_view};
 use crate::dialect::Dialect;
 use crate::fault::ReadFault;
 use crate::terms::{Term, terms};
-use program_lexemes::{LexFault, LexKind, Lexeme, MAX_TEXT, lexemes};
+use program_lexemes::{LexFault, LexKind, Lexeme, lexemes};
 use std::alloc::Global;
 
 /// The lexemes of the text.
 fn read_lexemes(alloc: Global, dialect: Dialect, text: &[u8]) -> Result<Vec<Lexeme>, ReadFault>
     ensures found { IfOk result (λ ls. IsLexed dialect text.now ls.items) }
     ensures each { IfOk result (λ ls. All (IsIn (text_form dialect) text.now) ls.items) }
-    ensures bounded { IfOk result (λ ls. length ls.items ≤ MAX_TEXT) }
+    ensures bounded { IfOk result (λ ls. length ls.items ≤ longest_core_text) }
     ensures fault { IfErr result (Refuses dialect text.now) }
     ensures complete { (ls : List Lexeme) → IsLexed dialect text.now ls
         → MatchResult result (λ found. found.items ≡ ls) (λ fault. fault ≡ ReadFault.Memory) }
@@ -37,7 +38,7 @@ fn read_lexemes(alloc: Global, dialect: Dialect, text: &[u8]) -> Result<Vec<Lexe
 /// The fault of the first lexeme that is too long.
 fn long_fault(text: &[u8], lexemes: &[Lexeme], place: usize) -> ReadFault
     requires first { position (too_long text.now) lexemes.now ≡ Some place }
-    requires few { length lexemes.now ≤ MAX_TEXT }
+    requires few { length lexemes.now ≤ longest_core_text }
     ensures { RefusesLexemes text.now lexemes.now result }
 {
     let lexeme = place as u32;
@@ -55,7 +56,7 @@ pub(crate) fn read_terms(
     text: &[u8],
 ) -> Result<Vec<Term<'_>>, ReadFault>
     ensures found { IfOk result (λ ts. HasTerms dialect text.now (map term_view ts.items)) }
-    ensures bounded { IfOk result (λ ts. length ts.items ≤ MAX_TEXT) }
+    ensures bounded { IfOk result (λ ts. length ts.items ≤ longest_core_text) }
     ensures fault { IfErr result (Refuses dialect text.now) }
     ensures complete { (ts : List GrammarTerm) → HasTerms dialect text.now ts
         → MatchResult result (λ found. map term_view found.items ≡ ts) (λ fault. fault ≡ ReadFault.Memory) }

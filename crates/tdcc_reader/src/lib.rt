@@ -21,8 +21,11 @@ mod terms;
 #[cfg(test)]
 mod tests;
 
-pub use dialect::Dialect;
+pub use dialect::{
+    Dialect, GREATEST_CORE_DEPTH, GREATEST_DEPTH, MOST_CONSTRAINT_TOKENS, MOST_DECLARED_CELLS,
+    MOST_WRITTEN_TOKENS,
+};
 pub use fault::ReadFault;
-pub use laws::refusal_law;
+pub use laws::{limits_law, refusal_law};
 pub use reader::{read_program, read_text};
 pub use surface::{Form, Parts, Surface};

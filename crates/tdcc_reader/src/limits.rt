@@ -5,7 +5,7 @@ ghost use Rattle.program_grammar.specs.Programs.{Spells};
 ghost use Rattle.program_grammar.specs.Reading.{AreSteps};
 ghost use Rattle.program_grammar.specs.declared.words.Language.{Language};
 ghost use Rattle.tdcc_reader.specs.LimitPass.{deeper, higher, counts_skipped, limit_pass, limits, no_tokens, counts_bound, counts_equation, counts_matched, counts_unit, token_begins, unit_begins};
-ghost use Rattle.tdcc_reader.specs.Limits.{first, program_limit};
+ghost use Rattle.tdcc_reader.specs.LimitFaults.{first, program_limit};
 ghost use Rattle.tdcc_reader.specs.Passes.{over_steps};
 ghost use Rattle.tdcc_reader.specs.Refusals.{RefusesLimits};
 ghost use Rattle.tdcc_reader.specs.TermViews.{term_view};

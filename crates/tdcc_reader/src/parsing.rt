@@ -2,6 +2,7 @@
 ghost use Rattle.std.specs.Prelude.{◌≡◌, ◌≤◌, ◌<◌, ◌^◌, IfErr, IfOk, MatchResult, length, map, position};
 ghost use Rattle.program_grammar.specs.Phrases.{ProgramPhrase};
 ghost use Rattle.program_grammar.specs.Reading.{AreSteps};
+ghost use Rattle.program_lexemes.specs.Limits.{longest_core_text};
 ghost use Rattle.tdcc_reader.specs.Refusals.{IsProgramOf, RefusesTerms};
 ghost use Rattle.tdcc_reader.specs.declared.fault.ReadFault as ReadFault;
 ghost use Rattle.tdcc_reader.specs.Stages.{is_later};
@@ -11,7 +12,6 @@ use crate::dialect::Dialect;
 use crate::fault::ReadFault;
 use crate::terms::{Term, words};
 use program_grammar::{ParseFault, Step, Word, parse};
-use program_lexemes::MAX_TEXT;
 use std::alloc::Global;
 
 /// Whether the word belongs to a form that is not built yet.
@@ -34,7 +34,7 @@ pub(crate) fn read_steps(
     dialect: Dialect,
     terms: &[Term<'_>],
 ) -> Result<Vec<Step>, ReadFault>
-    requires { length terms.now ≤ MAX_TEXT }
+    requires { length terms.now ≤ longest_core_text }
     ensures found { IfOk result (λ steps. (p : ProgramPhrase) ×
         IsProgramOf dialect (map term_view terms.now) p × AreSteps p steps.items) }
     ensures fault { IfErr result (RefusesTerms dialect (map term_view terms.now)) }

@@ -5,7 +5,9 @@ ghost use Rattle.program_grammar.specs.Reading.{AreSteps};
 ghost use Rattle.tdcc_reader.specs.BuildPass.{built_view};
 ghost use Rattle.tdcc_reader.specs.Builds.{IsChecked};
 ghost use Rattle.tdcc_reader.specs.Refusals.{Accepts, IsProgramOf, Refuses, RefusesTerms};
-ghost use Rattle.tdcc_reader.specs.Limits.{program_limit};
+ghost use Rattle.program_lexemes.specs.Limits.{longest_core_text};
+ghost use Rattle.tdcc_reader.specs.LimitFaults.{program_limit};
+ghost use Rattle.tdcc_reader.specs.Limits.{most_declared_cells};
 ghost use Rattle.tdcc_reader.specs.Parts.{surface_of};
 ghost use Rattle.tdcc_reader.specs.Scope.{program_fault};
 ghost use Rattle.tdcc_reader.specs.Surfaces.{IsSurfaceOf, declared_cells};
@@ -14,7 +16,7 @@ ghost use Rattle.tdcc_reader.specs.declared.fault.ReadFault as ReadFault;
 ghost use Rattle.tdcc_reader.specs.Texts.{ReadsAs};
 
 use crate::build::{Builder, build};
-use crate::dialect::Dialect;
+use crate::dialect::{Dialect, MOST_DECLARED_CELLS};
 use crate::fault::ReadFault;
 use crate::finish::finish;
 use crate::lexing::read_terms;
@@ -24,11 +26,7 @@ use crate::parsing::read_steps;
 use crate::surface::{Parts, Surface};
 use crate::terms::Term;
 use program_grammar::Step;
-use program_lexemes::MAX_TEXT;
 use std::alloc::Global;
-
-/// The most cells that a program may declare.
-const MAX_DECLARED: usize = 256;
 
 /// What is built of the program of these terms and steps, where nothing refuses it.
 fn build_checked<'a>(
@@ -37,19 +35,19 @@ fn build_checked<'a>(
     terms: &[Term<'a>],
     steps: &[Step],
 ) -> Result<Builder<'a>, ReadFault>
-    requires { length terms.now ≤ MAX_TEXT }
+    requires { length terms.now ≤ longest_core_text }
     ensures found { (p : ProgramPhrase) → IsProgramOf dialect (map term_view terms.now) p → AreSteps p steps.now
         → IfOk result (λ b. IsChecked dialect p (built_view b)) }
     ensures fault { (p : ProgramPhrase) → IsProgramOf dialect (map term_view terms.now) p → AreSteps p steps.now
         → IfErr result (RefusesTerms dialect (map term_view terms.now)) }
     ensures complete { (p : ProgramPhrase) → IsProgramOf dialect (map term_view terms.now) p → AreSteps p steps.now
-        → program_limit dialect p ≡ None → program_fault p ≡ None → length (declared_cells p) ≤ 256
+        → program_limit dialect p ≡ None → program_fault p ≡ None → length (declared_cells p) ≤ most_declared_cells
         → IfErr result (λ fault. fault ≡ ReadFault.Memory) }
 {
     check_limits(dialect, terms, steps)?;
     check_names(alloc, terms, steps)?;
     let built = build(alloc, terms, steps)?;
-    if built.declared > MAX_DECLARED {
+    if built.declared > MOST_DECLARED_CELLS {
         return Err(ReadFault::TooManyDeclared);
     }
     Ok(built)

@@ -9,9 +9,9 @@ ghost use Rattle.tdcc_reader.specs.LexemeTerms.{keyword_term, term_of_lexeme, sy
 ghost use Rattle.tdcc_reader.specs.TermViews.{term_view};
 
 use program_grammar::Word;
+use names_and_numbers::number_value;
 use program_lexemes::{
-    Keyword, LexKind, Lexeme, Symbol, is_long, keyword_of, kinds_law, lexeme_bytes, number_value,
-    symbol_of,
+    Keyword, LexKind, Lexeme, Symbol, is_long, keyword_of, kinds_law, lexeme_bytes, symbol_of,
 };
 use std::alloc::{AllocError, Global};
 

@@ -1,31 +1,17 @@
 -- A text has one reading at most.
-use Rattle.std.proofs.Common.{◌≡◌, ℕ, Bool, true, false, ◌&&◌, ℤ, List, [], ◌∷◌, ◌++◌, length, get_or, Option, Some, refl, sym, ap, ◌∙◌, subst, arith}
+use Rattle.std.proofs.Common.{◌≡◌, ℕ, false, ℤ, List, [], ◌∷◌, ◌++◌, length, get_or, Option, Some, refl, sym, ap, ◌∙◌, subst, arith}
 use Rattle.std.specs.Prelude.{IsTrue, nat_le}
 use Rattle.std.specs.List.{list_all}
-use Rattle.std.specs.Char.{is_ascii_alphabetic}
+use Rattle.names_and_numbers.specs.Limits.{longest_name}
+use Rattle.names_and_numbers.specs.Names.{is_letter, is_word_byte, is_word, is_name}
+use Rattle.names_and_numbers.specs.Numbers.{number_of_text}
+use Rattle.names_and_numbers.specs.Prefixes.{prefix_len}
 use Rattle.token_system.specs.declared.cell.Token.{Token}
 use Rattle.token_system.specs.declared.cell.Token.TheVariants.{Off, AtLeast, AtMost, Clash}
 use Rattle.token_system.specs.declared.reading.Written.{Written}
-use Rattle.token_system.specs.Texts.{is_name, is_name_byte, marked_name, number_of_text, IsNamePrefix, IsNamed, IsTail, alone, at_least, at_most, exactly, IsTokenText, off, clash, plain}
+use Rattle.token_system.specs.Texts.{marked_name, IsNamed, IsTail, alone, at_least, at_most, exactly, IsTokenText, off, clash, plain}
 use Rattle.token_system.proofs.Alike.{true_false}
-use Rattle.token_system.proofs.NameFronts.{StartsOutside, tail-outside, name_bytes, named_parts, first_true}
-
--- the front that names may have, where a name stands first and no name byte after it
-front_of : (name rest : List ℕ) → list_all is_name_byte name ≡ true → StartsOutside rest → IsNamePrefix (name ++ rest) (length name)
-front_of [] [] all out = record { within = omega arith; name_bytes = refl; stops = λ lt. absurd (omega arith) }
-front_of [] (r ∷ rest) all out = record { within = omega arith; name_bytes = refl; stops = λ lt. out }
-front_of (b ∷ name) rest all out =
-    let parts = both_true (is_name_byte b) (list_all is_name_byte name) all in
-    let later = front_of name rest parts.1 out in
-    record {
-      within = let h = later.within in omega arith;
-      name_bytes = rw parts.0 later.name_bytes;
-      stops = λ lt. later.stops (omega arith);
-    }
-  where
-    both_true : (a b : Bool) → (a && b) ≡ true → (a ≡ true) × (b ≡ true)
-    both_true true b h = (refl, h)
-    both_true false b h = absurd (true_false (sym h))
+use Rattle.token_system.proofs.NameFronts.{tail-outside, name_bytes, named_parts, word_length, first_true}
 
 heads : (a b : ℕ) (xs ys : List ℕ) → a ∷ xs ≡ b ∷ ys → a ≡ b
 heads a b xs ys e = ap (λ zs. get_or zs 0 0) e
@@ -63,22 +49,21 @@ same_written v w p q r s = λ i. record { name_start = p i; name_end = q i; firs
 
 one_named : (bytes : List ℕ) (v w : Written) → IsNamed bytes v → IsNamed bytes w → v ≡ w
 one_named bytes v w g h =
-    let front = front_of g.name g.rest (name_bytes g.name g.is_a_name) (tail-outside g.rest v.first v.second g.tail) in
-    let at : IsNamePrefix bytes (length g.name) = subst (λ (bs : List ℕ). IsNamePrefix bs (length g.name)) (sym g.parts) front in
+    let at : length g.name ≡ prefix_len is_word_byte bytes = sym (ap (prefix_len is_word_byte) g.parts ∙ word_length g.name g.rest (name_bytes g.name g.is_a_name) (tail-outside g.rest v.first v.second g.tail)) in
     let mine = named_parts bytes (length g.name) v at g in
     let other = named_parts bytes (length g.name) w at h in
     let tails = one_tail g.rest v.first w.first v.second w.second g.tail (subst (λ (bs : List ℕ). IsTail bs w.first w.second) (sym other.1 ∙ mine.1) h.tail) in
     same_written v w (g.start ∙ sym h.start) (g.ends ∙ ap length (sym mine.0 ∙ other.0) ∙ sym h.ends) tails.0 tails.1
 
 -- a name does not begin with a byte that is no letter
-no_letter : (bytes rest : List ℕ) (m : ℕ) (w : Written) → is_ascii_alphabetic m ≡ false → bytes ≡ m ∷ rest → IsNamed bytes w → ⊥
+no_letter : (bytes rest : List ℕ) (m : ℕ) (w : Written) → is_letter m ≡ false → bytes ≡ m ∷ rest → IsNamed bytes w → ⊥
 no_letter bytes rest m w out e h = go h.name h.is_a_name (sym e ∙ h.parts)
   where
     go : (name : List ℕ) → IsTrue (is_name name) → m ∷ rest ≡ name ++ h.rest → ⊥
     go [] p q = true_false (sym p)
     go (b ∷ bs) p q =
         let same : m ≡ b = cc in
-        true_false (sym (first_true (is_ascii_alphabetic b) (list_all is_name_byte bs) (first_true (is_ascii_alphabetic b && list_all is_name_byte bs) (nat_le (length bs) 31) p)) ∙ ap is_ascii_alphabetic (sym same) ∙ out)
+        true_false (sym (first_true (is_letter b) (list_all is_word_byte bs) (first_true (is_word (b ∷ bs)) (nat_le (length (b ∷ bs)) longest_name) p)) ∙ ap is_letter (sym same) ∙ out)
 
 pub one_reading : (bytes : List ℕ) (v w : Written) → IsTokenText bytes v → IsTokenText bytes w → v ≡ w
 one_reading bytes v w (off m e p q) (off n e' p' q') = q ∙ ap (λ xs. marked_name xs Off) (let same : 33 ∷ m ≡ 33 ∷ n = sym e ∙ e' in cc) ∙ sym q'

@@ -1,12 +1,10 @@
 -- The text of a token reads as that token.
-use Rattle.std.proofs.Common.{◌≡◌, ℕ, suc, ◌<◌, ◌^◌, Bool, true, false, cond, ◌&&◌, not, ℤ, pos, negsuc, neg_ℤ, List, [], ◌∷◌, ◌++◌, length, Some, None, refl, sym, ap, ◌∙◌, subst, arith}
-use Rattle.std.specs.Prelude.{IsTrue, codes, nat_le, nat_eq, option_map}
+use Rattle.std.proofs.Common.{◌≡◌, ℕ, suc, ◌<◌, ◌≤◌, ◌^◌, Bool, true, false, ◌&&◌, not, ℤ, pos, negsuc, List, [], ◌∷◌, ◌++◌, length, Some, None, refl, sym, ap, ◌∙◌, subst, arith}
+use Rattle.std.specs.Prelude.{IsTrue, codes, nat_le, if◌then◌else◌}
 use Rattle.std.specs.List.{list_all}
 use mathlib.Core.List.{append_assoc}
-use Rattle.std.specs.Char.{is_ascii_digit}
 use Rattle.std.specs.Fmt.{decimal, signed_decimal}
-use Rattle.std.specs.Str.Parse.{digits_value}
-use Rattle.std.proofs.lemmas.Fmt.{digits_decimal, digits_value-decimal, decimal_nonempty, length-decimal-le}
+use Rattle.std.proofs.lemmas.Fmt.{length-decimal-le}
 use Rattle.std.proofs.lemmas.Bool.Decides.{nat_tests}
 use Rattle.std.proofs.lemmas.Int.{ints}
 use Rattle.token_system.specs.Domain.{is_bound}
@@ -14,47 +12,35 @@ use Rattle.token_system.specs.declared.cell.Cell.{Cell}
 use Rattle.token_system.specs.Tokens.{Fits, is_signal}
 use Rattle.token_system.specs.declared.cell.Token.{Token}
 use Rattle.token_system.specs.declared.cell.Token.TheVariants.{On, Off, AtLeast, AtMost, Clash}
-use Rattle.token_system.specs.Texts.{text_of, is_name, is_digits, digits_number, number_of_text, written_of, alone, at_least, at_most, IsTokenText, off, clash, plain}
+use Rattle.names_and_numbers.specs.Limits.{most_digits}
+use Rattle.names_and_numbers.specs.Names.{is_digit, is_name}
+use Rattle.names_and_numbers.specs.Numbers.{are_digits, are_few_digits, digits_of, number_of, number_of_text}
+use Rattle.names_and_numbers.proofs.Bools.{and_left, both_true}
+use Rattle.names_and_numbers.proofs.Printed.{decimal_digits, no_minus, number_of-decimal, number_of-minus_decimal}
+use Rattle.token_system.specs.Texts.{text_of, written_of, alone, at_least, at_most, IsTokenText, off, clash, plain}
 use Rattle.token_system.proofs.Alike.{true_false}
-use Rattle.token_system.proofs.Numerals.{own}
 
-decimal_is_digits : (n : ℕ) → n < 10 ^ 9 → is_digits (decimal n) ≡ true
-decimal_is_digits n lt =
-    let some = decimal_nonempty n (omega arith) in
-    let few = length-decimal-le 9 n (omega arith) lt (omega arith) in
-    let all : list_all is_ascii_digit (decimal n) ≡ true = digits_decimal own n (omega arith) in
-    rw all (grind (arith, nat_tests))
-
-digits_number-decimal : (n : ℕ) → n < 10 ^ 9 → digits_number (decimal n) ≡ Some (pos n)
-digits_number-decimal n lt =
-    ap (λ b. cond b (Some (pos (digits_value 10 (decimal n)))) None) (decimal_is_digits n lt) ∙ ap (λ m. Some (pos m)) (digits_value-decimal own n (omega arith))
-
--- digits begin with no minus sign
-number-digits : (ds : List ℕ) → is_digits ds ≡ true → number_of_text ds ≡ digits_number ds
-number-digits [] h = absurd (true_false (sym h))
-number-digits (b ∷ bs) h = rw (no_minus b (digit_first h)) refl
+few_decimal : (n : ℕ) → n < 10 ^ 9 → are_few_digits (decimal n) ≡ true
+few_decimal n lt = both_true (are_digits (decimal n)) (nat_le (length (decimal n)) most_digits) (decimal_digits n (omega arith)) (at_most (length (decimal n)) (length-decimal-le 9 n (omega arith) lt (omega arith)))
   where
-    no_minus : (b : ℕ) → is_ascii_digit b ≡ true → nat_eq b 45 ≡ false
-    no_minus b h = grind (arith, nat_tests)
+    at_most : (m : ℕ) → m ≤ 9 → nat_le m 9 ≡ true
+    at_most m h = grind (arith, nat_tests)
 
-    second : (p q : Bool) → (p && q) ≡ true → q ≡ true
-    second true q h = h
-    second false q h = absurd (true_false (sym h))
+-- digits have no minus in front
+digits_alone : (ds : List ℕ) → are_digits ds ≡ true → digits_of ds ≡ ds
+digits_alone [] h = refl
+digits_alone (d ∷ ds) h = ap (λ t. if t then ds else d ∷ ds) (no_minus d (and_left (is_digit d) (list_all is_digit ds) h))
 
-    first : (p q : Bool) → (p && q) ≡ true → p ≡ true
-    first true q h = refl
-    first false q h = h
-
-    digit_first : is_digits (b ∷ bs) ≡ true → is_ascii_digit b ≡ true
-    digit_first h = first (is_ascii_digit b) (list_all is_ascii_digit bs) (second (nat_le 1 (length (b ∷ bs)) && nat_le (length (b ∷ bs)) 9) (list_all is_ascii_digit (b ∷ bs)) h)
+read_number : (bytes : List ℕ) (k : ℤ) → are_few_digits (digits_of bytes) ≡ true → number_of bytes ≡ k → number_of_text bytes ≡ Some k
+read_number bytes k few e = ap (λ t. if t then Some (number_of bytes) else None) few ∙ ap Some e
 
 pub number-signed_decimal : (k : ℤ) → IsTrue (is_bound k) → number_of_text (signed_decimal k) ≡ Some k
 number-signed_decimal (pos n) h =
     let lt : n < 10 ^ 9 = grind (arith, ints) in
-    number-digits (decimal n) (decimal_is_digits n lt) ∙ digits_number-decimal n lt
+    read_number (decimal n) (pos n) (ap are_few_digits (digits_alone (decimal n) (decimal_digits n (omega arith))) ∙ few_decimal n lt) (number_of-decimal n (omega arith))
 number-signed_decimal (negsuc n) h =
     let lt : suc n < 10 ^ 9 = grind (arith, ints) in
-    ap (option_map neg_ℤ) (digits_number-decimal (suc n) lt)
+    read_number (45 ∷ decimal (suc n)) (negsuc n) (few_decimal (suc n) lt) (number_of-minus_decimal (suc n) (omega arith))
 
 append_nil : (xs : List ℕ) → xs ++ [] ≡ xs
 append_nil [] = refl

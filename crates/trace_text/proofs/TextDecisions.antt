@@ -6,7 +6,7 @@ use Rattle.std.proofs.lemmas.Bool.Decides.{eqb_tells}
 use Rattle.token_system.specs.declared.cell.Token.{Token}
 use Rattle.token_system.specs.declared.cell.Token.TheVariants.{On, Off, AtLeast, AtMost, Clash}
 use Rattle.token_system.specs.declared.reading.Written.{Written}
-use Rattle.token_system.specs.Texts.{is_name, is_name_byte, number_of_text, marked_name, IsTail, alone, at_least, at_most, exactly, IsNamed, IsTokenText, off, clash, plain}
+use Rattle.token_system.specs.Texts.{is_name, is_word_byte, number_of_text, marked_name, IsTail, alone, at_least, at_most, exactly, IsNamed, IsTokenText, off, clash, plain}
 use Rattle.token_system.proofs.Alike.{true_false}
 use Rattle.token_system.proofs.NameFronts.{StartsOutside, tail-outside, name_bytes}
 use Rattle.agent_core.proofs.Bools.{both, first_of_both, second_of_both}
@@ -104,25 +104,25 @@ record Front (bytes : List ℕ) : Type 0 where
   name : List ℕ
   rest : List ℕ
   parts : bytes ≡ name ++ rest
-  all : list_all is_name_byte name ≡ true
+  all : list_all is_word_byte name ≡ true
   outside : StartsOutside rest
 
 front_of : (bytes : List ℕ) → Front bytes
 front_of [] = record { name = []; rest = []; parts = refl; all = refl; outside = tt }
-front_of (b ∷ bytes) = go (decide (is_name_byte b)) (front_of bytes)
+front_of (b ∷ bytes) = go (decide (is_word_byte b)) (front_of bytes)
   where
-    go : (is_name_byte b ≡ true) ⊎ (is_name_byte b ≡ false) → Front bytes → Front (b ∷ bytes)
-    go (inl e) f = record { name = b ∷ f.name; rest = f.rest; parts = ap (λ (xs : List ℕ). b ∷ xs) f.parts; all = both (is_name_byte b) (list_all is_name_byte f.name) e f.all; outside = f.outside }
+    go : (is_word_byte b ≡ true) ⊎ (is_word_byte b ≡ false) → Front bytes → Front (b ∷ bytes)
+    go (inl e) f = record { name = b ∷ f.name; rest = f.rest; parts = ap (λ (xs : List ℕ). b ∷ xs) f.parts; all = both (is_word_byte b) (list_all is_word_byte f.name) e f.all; outside = f.outside }
     go (inr e) f = record { name = []; rest = b ∷ bytes; parts = refl; all = refl; outside = e }
 
-one_front : (a b x y : List ℕ) → a ++ x ≡ b ++ y → list_all is_name_byte a ≡ true → list_all is_name_byte b ≡ true → StartsOutside x → StartsOutside y → (a ≡ b) × (x ≡ y)
+one_front : (a b x y : List ℕ) → a ++ x ≡ b ++ y → list_all is_word_byte a ≡ true → list_all is_word_byte b ≡ true → StartsOutside x → StartsOutside y → (a ≡ b) × (x ≡ y)
 one_front [] [] x y e p q ox oy = (refl, e)
-one_front [] (c ∷ b) x y e p q ox oy = absurd (true_false (sym (first_of_both (is_name_byte c) (list_all is_name_byte b) q) ∙ subst StartsOutside e ox))
-one_front (c ∷ a) [] x y e p q ox oy = absurd (true_false (sym (first_of_both (is_name_byte c) (list_all is_name_byte a) p) ∙ subst StartsOutside (sym e) oy))
+one_front [] (c ∷ b) x y e p q ox oy = absurd (true_false (sym (first_of_both (is_word_byte c) (list_all is_word_byte b) q) ∙ subst StartsOutside e ox))
+one_front (c ∷ a) [] x y e p q ox oy = absurd (true_false (sym (first_of_both (is_word_byte c) (list_all is_word_byte a) p) ∙ subst StartsOutside (sym e) oy))
 one_front (c ∷ a) (d ∷ b) x y e p q ox oy =
     let tails : a ++ x ≡ b ++ y = cc in
     let first : c ≡ d = heads c d (a ++ x) (b ++ y) e in
-    let later = one_front a b x y tails (second_of_both (is_name_byte c) (list_all is_name_byte a) p) (second_of_both (is_name_byte d) (list_all is_name_byte b) q) ox oy in
+    let later = one_front a b x y tails (second_of_both (is_word_byte c) (list_all is_word_byte a) p) (second_of_both (is_word_byte d) (list_all is_word_byte b) q) ox oy in
     (ap (λ (n : ℕ). n ∷ a) first ∙ ap (λ (xs : List ℕ). d ∷ xs) later.0, later.1)
 
 abbrev IsReadAs : (List ℕ → Written → Type 0) → List ℕ → Type 0

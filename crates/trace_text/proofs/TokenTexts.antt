@@ -1,9 +1,7 @@
 -- The bytes of a token's text: one at least, 44 at most, and none of them a blank. So texts with single spaces between them are the pieces of their line.
-use Rattle.std.proofs.Common.{◌≡◌, ℕ, ◌≤◌, Bool, true, false, cond, ◌&&◌, not, ℤ, pos, neg_ℤ, List, [], ◌∷◌, ◌++◌, length, Some, None, refl, sym, ap, ◌∙◌, subst, arith}
-use Rattle.std.specs.Prelude.{Option, IsTrue, nat_eq, nat_le, option_map}
-use Rattle.std.specs.Char.{is_ascii_alphabetic, is_ascii_digit}
+use Rattle.std.proofs.Common.{◌≡◌, ℕ, ◌≤◌, Bool, true, false, not, ℤ, List, [], ◌∷◌, ◌++◌, length, Some, None, refl, sym, ap, ◌∙◌, subst, arith}
+use Rattle.std.specs.Prelude.{Option, IsTrue, nat_le, if◌then◌else◌}
 use Rattle.std.specs.List.{list_all, slice_split, onto_first, join_with_byte}
-use Rattle.std.specs.Str.Parse.{digits_value}
 use Rattle.std.proofs.lemmas.Bool.{eqb-true}
 use Rattle.std.proofs.lemmas.Bool.Decides.{nat_tests}
 use Rattle.std.proofs.lemmas.List.{length-append}
@@ -11,7 +9,10 @@ use Rattle.std.proofs.lemmas.List.Folds.{list_all-append}
 use Rattle.std.proofs.lemmas.List.Splits.{slice_split-cons_no}
 use Rattle.token_system.specs.declared.cell.Token.{Token}
 use Rattle.token_system.specs.declared.reading.Written.{Written}
-use Rattle.token_system.specs.Texts.{is_name, is_name_byte, is_digits, digits_number, number_of_text, IsTail, alone, at_least, at_most, exactly, IsTokenText, off, clash, plain}
+use Rattle.names_and_numbers.specs.Limits.{longest_name, most_digits}
+use Rattle.names_and_numbers.specs.Names.{is_digit, is_word_byte, is_word, is_name}
+use Rattle.names_and_numbers.specs.Numbers.{is_minus, are_digits, are_few_digits, digits_of, number_of, number_of_text}
+use Rattle.token_system.specs.Texts.{IsTail, alone, at_least, at_most, exactly, IsTokenText, off, clash, plain}
 use Rattle.token_system.proofs.Alike.{true_false}
 use Rattle.token_system.proofs.NameFronts.{name_bytes}
 use Rattle.agent_core.specs.Strata.{Each}
@@ -24,47 +25,43 @@ not_blank b = not (is_blank b)
 abbrev pub HasNoBlank : List ℕ → Type 0
 HasNoBlank bytes = list_all not_blank bytes ≡ true
 
-name_byte_stays : (b : ℕ) → is_name_byte b ≡ true → not_blank b ≡ true
+name_byte_stays : (b : ℕ) → is_word_byte b ≡ true → not_blank b ≡ true
 name_byte_stays b h = grind (arith, nat_tests)
 
-digit_stays : (b : ℕ) → is_ascii_digit b ≡ true → not_blank b ≡ true
+digit_stays : (b : ℕ) → is_digit b ≡ true → not_blank b ≡ true
 digit_stays b h = grind (arith, nat_tests)
 
 all_weaker : (p q : ℕ → Bool) → ((b : ℕ) → p b ≡ true → q b ≡ true) → (bytes : List ℕ) → list_all p bytes ≡ true → list_all q bytes ≡ true
 all_weaker p q f [] h = refl
 all_weaker p q f (b ∷ bytes) h = both (q b) (list_all q bytes) (f b (first_of_both (p b) (list_all p bytes) h)) (all_weaker p q f bytes (second_of_both (p b) (list_all p bytes) h))
 
-at_most_9 : (n : ℕ) → IsTrue (nat_le n 9) → n ≤ 9
-at_most_9 n h = grind (arith, nat_tests)
+is_within : (n m : ℕ) → nat_le n m ≡ true → n ≤ m
+is_within n m h = grind (arith, nat_tests)
 
-at_most_31 : (n : ℕ) → IsTrue (nat_le n 31) → n ≤ 31
-at_most_31 n h = grind (arith, nat_tests)
+digits_facts : (ds : List ℕ) → are_few_digits ds ≡ true → HasNoBlank ds × (length ds ≤ most_digits)
+digits_facts [] e = absurd (true_false (sym e))
+digits_facts (d ∷ ds) e = (
+  all_weaker is_digit not_blank digit_stays (d ∷ ds) (first_of_both (are_digits (d ∷ ds)) (nat_le (length (d ∷ ds)) most_digits) e),
+  is_within (length (d ∷ ds)) most_digits (second_of_both (are_digits (d ∷ ds)) (nat_le (length (d ∷ ds)) most_digits) e),
+)
 
-digits_facts : (ds : List ℕ) (k : ℤ) → digits_number ds ≡ Some k → HasNoBlank ds × (length ds ≤ 9)
-digits_facts ds k e = go (is_digits ds) refl e
+few_facts : (bytes : List ℕ) → are_few_digits (digits_of bytes) ≡ true → HasNoBlank bytes × (length bytes ≤ 10)
+few_facts [] e = absurd (true_false (sym e))
+few_facts (b ∷ bytes) e = go (is_minus b) refl e
   where
-    go : (t : Bool) → is_digits ds ≡ t → cond t (Some (pos (digits_value 10 ds))) None ≡ Some k → HasNoBlank ds × (length ds ≤ 9)
-    go false t e = absurd (cc)
-    go true t e = (
-      all_weaker is_ascii_digit not_blank digit_stays ds (second_of_both (nat_le 1 (length ds) && nat_le (length ds) 9) (list_all is_ascii_digit ds) t),
-      at_most_9 (length ds) (second_of_both (nat_le 1 (length ds)) (nat_le (length ds) 9) (first_of_both (nat_le 1 (length ds) && nat_le (length ds) 9) (list_all is_ascii_digit ds) t)),
-    )
-
-negated : (o : Option ℤ) (k : ℤ) → option_map neg_ℤ o ≡ Some k → (j : ℤ) × (o ≡ Some j)
-negated None k e = absurd (cc)
-negated (Some j) k e = (j, refl)
-
-number_facts : (bytes : List ℕ) (k : ℤ) → number_of_text bytes ≡ Some k → HasNoBlank bytes × (length bytes ≤ 10)
-number_facts [] k e = absurd (cc)
-number_facts (b ∷ bytes) k e = go (nat_eq b 45) refl e
-  where
-    go : (t : Bool) → nat_eq b 45 ≡ t → cond t (option_map neg_ℤ (digits_number bytes)) (digits_number (b ∷ bytes)) ≡ Some k → HasNoBlank (b ∷ bytes) × (length (b ∷ bytes) ≤ 10)
+    go : (t : Bool) → is_minus b ≡ t → are_few_digits (if t then bytes else b ∷ bytes) ≡ true → HasNoBlank (b ∷ bytes) × (length (b ∷ bytes) ≤ 10)
     go true t e =
-        let own = negated (digits_number bytes) k e in
-        let d = digits_facts bytes own.0 own.1 in
+        let d = digits_facts bytes e in
         let minus : b ≡ 45 = eqb-true b 45 t in
         (both (not_blank b) (list_all not_blank bytes) (ap not_blank minus) d.0, let h = d.1 in omega arith)
-    go false t e = let d = digits_facts (b ∷ bytes) k e in (d.0, let h = d.1 in omega arith)
+    go false t e = let d = digits_facts (b ∷ bytes) e in (d.0, let h = d.1 in omega arith)
+
+number_facts : (bytes : List ℕ) (k : ℤ) → number_of_text bytes ≡ Some k → HasNoBlank bytes × (length bytes ≤ 10)
+number_facts bytes k e = go (are_few_digits (digits_of bytes)) refl e
+  where
+    go : (t : Bool) → are_few_digits (digits_of bytes) ≡ t → (if t then Some (number_of bytes) else None) ≡ Some k → HasNoBlank bytes × (length bytes ≤ 10)
+    go true is e = few_facts bytes is
+    go false is e = absurd (cc)
 
 -- what is known of the bytes of a name, or of a token's text
 pub record TextFacts (bytes : List ℕ) (most : ℕ) : Type 0 where
@@ -72,12 +69,12 @@ pub record TextFacts (bytes : List ℕ) (most : ℕ) : Type 0 where
   pub some : is_some bytes ≡ true
   pub short : length bytes ≤ most
 
-name_facts : (name : List ℕ) → IsTrue (is_name name) → TextFacts name 32
+name_facts : (name : List ℕ) → IsTrue (is_name name) → TextFacts name longest_name
 name_facts [] h = absurd (true_false (sym h))
 name_facts (b ∷ bytes) h = record {
-  no_blank = all_weaker is_name_byte not_blank name_byte_stays (b ∷ bytes) (name_bytes (b ∷ bytes) h);
+  no_blank = all_weaker is_word_byte not_blank name_byte_stays (b ∷ bytes) (name_bytes (b ∷ bytes) h);
   some = refl;
-  short = let k = at_most_31 (length bytes) (second_of_both (is_ascii_alphabetic b && list_all is_name_byte bytes) (nat_le (length bytes) 31) h) in omega arith;
+  short = is_within (length (b ∷ bytes)) longest_name (second_of_both (is_word (b ∷ bytes)) (nat_le (length (b ∷ bytes)) longest_name) h);
 }
 
 tail_facts : (rest : List ℕ) (f : Token) (s : Option Token) → IsTail rest f s → HasNoBlank rest × (length rest ≤ 12)

@@ -1,0 +1,4 @@
+pub mod Limits
+pub mod Prefixes
+pub mod Names
+pub mod Numbers
