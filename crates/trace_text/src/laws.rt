@@ -7,7 +7,10 @@ ghost use Rattle.agent_core.specs.Stores.{IsInput};
 ghost use Rattle.trace_text.specs.Generated.{program_text, trace_lines};
 ghost use Rattle.trace_text.specs.Inputs.{GivesInput};
 ghost use Rattle.trace_text.specs.Laws.{HasOneReading, HasOwnNames, IsDeclaredPart, IsLine};
+ghost use Rattle.trace_text.specs.Limits.{longest_trace_line};
 ghost use Rattle.trace_text.specs.StoreLines.{store_line};
+
+use crate::limits::LONGEST_TRACE_LINE;
 
 /// A line gives exactly one input or has exactly one fault, and not both, so that what `read_input`
 /// answers is the only answer, out of memory aside.
@@ -24,6 +27,11 @@ pub fn writing_law()
         → IsInput p v → IsInput p w → store_line p v ≡ store_line p w → v ≡ w }
     ensures short { (p : CoreProgram) (v : StoreMap) → IsWellFormed p → HasOwnNames p → IsInput p v
         → length (store_line p v) ≤ 23039 }
+{}
+
+/// The limit of the code is the one that the definitions name.
+pub fn limits_law()
+    ensures { LONGEST_TRACE_LINE ≡ longest_trace_line }
 {}
 
 /// A generated program is one line, and the trace of a number has so many lines, of three signals
