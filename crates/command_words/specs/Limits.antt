@@ -1,9 +1,9 @@
 -- The greatest numbers of words and settings, and the numbers where none is set. This project's own.
 use Rattle.std.specs.Prelude.{ℕ}
 
--- the most digits of a number
-abbrev pub most_digits : ℕ
-most_digits = 9
+-- the most digits of a number among the words of a call
+abbrev pub most_word_digits : ℕ
+most_word_digits = 9
 
 -- the most workers
 abbrev pub most_workers : ℕ

@@ -2,7 +2,7 @@
 use Rattle.std.specs.Prelude.{◌≡◌, ◌≢◌, ℕ, ◌≤◌, List, [], ◌∷◌, length, codes, AllPairs, Contains, Option, Some, ◌↔◌, ⊤}
 use Rattle.std.specs.Int.{IsInRange}
 use Rattle.std.specs.Str.Parse.{IsNumeral, digits_value}
-use Rattle.command_words.specs.Limits.{most_digits, most_workers, default_fuel, most_leaves, default_leaves}
+use Rattle.command_words.specs.Limits.{most_word_digits, most_workers, default_fuel, most_leaves, default_leaves}
 use Rattle.command_words.specs.declared.settings.Limits.{Limits}
 use Rattle.command_words.specs.declared.settings.Setting.{Setting}
 use Rattle.command_words.specs.declared.settings.Setting.TheVariants.{Workers, Fuel, Net}
@@ -11,7 +11,7 @@ use Rattle.command_words.specs.declared.settings.Settings.{Settings}
 -- the word is one digit or more, but not too many, which write this number
 pub record IsNumber (word : List ℕ) (n : ℕ) : Type 0 where
   pub digits : IsNumeral 10 word
-  pub short : length word ≤ most_digits
+  pub short : length word ≤ most_word_digits
   pub value : n ≡ digits_value 10 word
 
 -- there is a worker and a leaf at least, and not too many of them; any number is a fuel

@@ -8,7 +8,7 @@ ghost use Rattle.command_words.specs.Words.{CallAlike, IsCommand, SetsWorkers};
 
 use crate::command::MOST_GENERATED_LINES;
 use crate::settings::{
-    DEFAULT_FUEL, DEFAULT_LEAVES, GREATEST_FUEL, MOST_DIGITS, MOST_LEAVES, MOST_WORKERS,
+    DEFAULT_FUEL, DEFAULT_LEAVES, GREATEST_FUEL, MOST_LEAVES, MOST_WORD_DIGITS, MOST_WORKERS,
 };
 
 /// Words are those of one command at most.
@@ -28,7 +28,7 @@ pub fn workers_law()
 /// The greatest numbers and the defaults of the code are those that the definitions name, and the limits that words
 /// give are at most the greatest.
 pub fn limits_law()
-    ensures digits { MOST_DIGITS ≡ most.most_digits }
+    ensures digits { MOST_WORD_DIGITS ≡ most.most_word_digits }
     ensures workers { MOST_WORKERS ≡ most.most_workers }
     ensures lines { MOST_GENERATED_LINES ≡ most.most_generated_lines }
     ensures fuels { GREATEST_FUEL ≡ most.greatest_fuel }

@@ -3,8 +3,8 @@ ghost use Rattle.std.specs.Prelude.{◌≡◌, ℕ, ◌++◌, ◌∷◌, [], Lis
 ghost use Rattle.command_words.specs.declared.settings.Setting.{Setting};
 ghost use Rattle.command_words.specs.Settings.{AreLimits, AreOnce, IsNumber, IsSetting, KeepsSettings, GiveLimits};
 
-/// The most digits of a number.
-pub const MOST_DIGITS: usize = 9;
+/// The most digits of a number among the words of a call.
+pub const MOST_WORD_DIGITS: usize = 9;
 
 /// The most workers.
 pub const MOST_WORKERS: u32 = 64;
@@ -80,11 +80,11 @@ impl Settings {
     }
 }
 
-/// The number that the word writes: one to `MOST_DIGITS` digits.
+/// The number that the word writes: one to `MOST_WORD_DIGITS` digits.
 pub(crate) fn number_of(word: &str) -> Option<u32>
     ensures { MatchOption result ((n : ℕ) → IsNumber word.now n → ⊥) (IsNumber word.now) }
 {
-    if word.len() > MOST_DIGITS || word.starts_with('+') {
+    if word.len() > MOST_WORD_DIGITS || word.starts_with('+') {
         return None;
     }
     word.parse().ok()
