@@ -6,7 +6,7 @@ ghost use Rattle.agent_core.specs.Programs.{CoreProgram};
 ghost use Rattle.agent_core.specs.Stores.{IsInput};
 ghost use Rattle.trace_text.specs.Generated.{program_text, trace_lines};
 ghost use Rattle.trace_text.specs.Inputs.{GivesInput};
-ghost use Rattle.trace_text.specs.Laws.{HasOneReading, HasOwnNames, IsDeclaredPart, IsLine};
+ghost use Rattle.trace_text.specs.Laws.{HasOneReading, HasOwnNames, IsInputPart, IsLine};
 ghost use Rattle.trace_text.specs.Limits.{longest_trace_line};
 ghost use Rattle.trace_text.specs.StoreLines.{store_line};
 
@@ -22,7 +22,7 @@ pub fn reading_law()
 /// is over the declared cells, and two stores over the declared cells have two lines.
 pub fn writing_law()
     ensures reads_back { (p : CoreProgram) (v i : StoreMap) → IsWellFormed p → HasOwnNames p
-        → IsDeclaredPart p v i → GivesInput p (store_line p v) i }
+        → IsInputPart p v i → GivesInput p (store_line p v) i }
     ensures two_lines { (p : CoreProgram) (v w : StoreMap) → IsWellFormed p → HasOwnNames p
         → IsInput p v → IsInput p w → store_line p v ≡ store_line p w → v ≡ w }
     ensures short { (p : CoreProgram) (v : StoreMap) → IsWellFormed p → HasOwnNames p → IsInput p v
