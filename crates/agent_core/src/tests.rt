@@ -231,3 +231,24 @@ fn a_local_cell_is_that_of_the_instant_at_which_the_hence_started_it(
     assert_eq!(rt; (neither, of_first, of_second), (false, true, false));
     Ok(())
 }
+
+/// Whether so many nexts around a skip are a program: a chain in which each node but the last has the
+/// next one as its part.
+fn is_chain_a_program(alloc: Global, nexts: u32) -> Result<bool, Fail>
+    requires { nexts < 10000 }
+{
+    let mut nodes = Vec::new(alloc);
+    for n in 0..nexts {
+        nodes.push(Node::Next { body: n + 1 })?;
+    }
+    nodes.push(Node::Skip)?;
+    Ok(Program::make(Vec::new(alloc), 0, nodes).is_some())
+}
+
+#[test]
+fn a_program_is_up_to_4096_nodes_deep(rt: HostRuntime) -> Result<(), Fail> {
+    let deepest = is_chain_a_program(rt.alloc(), 4_095)?;
+    let deeper = is_chain_a_program(rt.alloc(), 4_096)?;
+    assert_eq!(rt; (deepest, deeper), (true, false));
+    Ok(())
+}

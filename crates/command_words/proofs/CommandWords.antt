@@ -4,7 +4,7 @@ use Rattle.std.specs.Str.Parse.{digits_value}
 use Rattle.command_words.specs.declared.command.Command.{Command}
 use Rattle.command_words.specs.declared.command.Command.TheVariants.{Run, Report, Check, Core, Generate}
 use Rattle.command_words.specs.declared.settings.Limits.{Limits}
-use Rattle.command_words.specs.Settings.{SaysLimits}
+use Rattle.command_words.specs.Settings.{GiveLimits}
 use Rattle.command_words.specs.Words.{IsCommand, IsNoCommand, IsWithLimits, IsWithLines}
 use Rattle.command_words.proofs.SaidLimits.{one_limits}
 
@@ -32,7 +32,7 @@ alike a b e = (ap length e, ap (λ w. get_or w 0 0) e)
 one_with_limits : (word : List ℕ) (words : List (List ℕ)) (a b : Limits) → IsWithLimits word words a → IsWithLimits word words b → a ≡ b
 one_with_limits word words a b x y =
     let same : y.more ≡ x.more = cc in
-    one_limits x.more a b x.says (subst (λ (ws : List (List ℕ)). SaysLimits ws b) same y.says)
+    one_limits x.more a b x.given (subst (λ (ws : List (List ℕ)). GiveLimits ws b) same y.given)
 
 -- behind `gen`, the number of lines is one
 one_with_lines : (words : List (List ℕ)) (m n : ℕ) → IsWithLines words m → IsWithLines words n → m ≡ n
@@ -54,9 +54,9 @@ one_command words a b x y =
     absurd (omega arith)
 
 -- a command that takes settings, with words behind it that say no limits
-pub refused : (words more : List (List ℕ)) (word : List ℕ) → (word ≡ codes "run") ⊎ (word ≡ codes "report") → words ≡ word ∷ more → ((limits : Limits) → SaysLimits more limits → ⊥) → IsNoCommand words
-refused words more word which first none (Run limits) x = none limits (let same : x.more ≡ more = cc in subst (λ (ws : List (List ℕ)). SaysLimits ws limits) same x.says)
-refused words more word which first none (Report limits) x = none limits (let same : x.more ≡ more = cc in subst (λ (ws : List (List ℕ)). SaysLimits ws limits) same x.says)
+pub refused : (words more : List (List ℕ)) (word : List ℕ) → (word ≡ codes "run") ⊎ (word ≡ codes "report") → words ≡ word ∷ more → ((limits : Limits) → GiveLimits more limits → ⊥) → IsNoCommand words
+refused words more word which first none (Run limits) x = none limits (let same : x.more ≡ more = cc in subst (λ (ws : List (List ℕ)). GiveLimits ws limits) same x.given)
+refused words more word which first none (Report limits) x = none limits (let same : x.more ≡ more = cc in subst (λ (ws : List (List ℕ)). GiveLimits ws limits) same x.given)
 refused words more word (inl e) first none command x =
     let p = first_word command words x in
     let same = alike (word_of command) (codes "run") (cc) in

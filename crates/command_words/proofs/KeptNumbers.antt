@@ -34,10 +34,10 @@ kept_other set ss s o other kept k = (
   (λ e. Contains-append_left ss (s ∷ []) (set k) ((kept k).1 e)),
 )
 
--- what is kept, or else the usual number, is the limit
-pub limit_kept : (ss : List Setting) (set : ℕ → Setting) (usual : ℕ) (o : Option ℕ) → KeepsNumber ss set o → IsLimit ss set usual (unwrap_or o usual)
-limit_kept ss set usual None kept = record { given = λ k at. absurd (let h = (kept k).0 at in cc); else_usual = λ _. refl }
-limit_kept ss set usual (Some n) kept = record { given = λ k at. let h = (kept k).0 at in cc; else_usual = λ none. absurd (none n ((kept n).1 refl)) }
+-- what is kept, or else the default number, is the limit
+pub limit_kept : (ss : List Setting) (set : ℕ → Setting) (default : ℕ) (o : Option ℕ) → KeepsNumber ss set o → IsLimit ss set default (unwrap_or o default)
+limit_kept ss set default None kept = record { given = λ k at. absurd (let h = (kept k).0 at in cc); else_default = λ _. refl }
+limit_kept ss set default (Some n) kept = record { given = λ k at. let h = (kept k).0 at in cc; else_default = λ none. absurd (none n ((kept n).1 refl)) }
 
 -- what is no value is none
 pub no_some : {X : Type 0} (o : Option X) → is_some o ≡ false → o ≡ None

@@ -8,3 +8,4 @@ pub mod WorkersWords
 pub mod CommandWords
 pub mod OtherWorkers
 pub mod NetRange
+pub mod FuelRange

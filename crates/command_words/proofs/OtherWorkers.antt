@@ -8,7 +8,8 @@ use Rattle.command_words.specs.declared.command.Command.TheVariants.{Run, Report
 use Rattle.command_words.specs.declared.settings.Limits.{Limits}
 use Rattle.command_words.specs.declared.settings.Setting.{Setting}
 use Rattle.command_words.specs.declared.settings.Setting.TheVariants.{Workers, Fuel, Net}
-use Rattle.command_words.specs.Settings.{AreLimits, AreOnce, AreSettings, IsLimit, IsNumber, IsSetting, SaysLimits, flag_of}
+use Rattle.command_words.specs.Limits.{default_fuel, default_leaves}
+use Rattle.command_words.specs.Settings.{AreLimits, AreOnce, AreSettings, IsLimit, IsNumber, IsSetting, GiveLimits, flag_of}
 use Rattle.command_words.specs.Words.{CallAlike, IsCommand, IsWithLimits, IsWithLines, MaySetWorkers, SetsWorkers}
 use Rattle.command_words.proofs.OnceSettings.{once_flags, once_without}
 use Rattle.command_words.proofs.SettingWords.{between, flag_no_number, joined, no_more, pair_of}
@@ -41,10 +42,10 @@ module _ (before behind : List Setting) where
   ]
 
   -- so each limit does
-  limit_stays : (us ts : List Setting) (set : ℕ → Setting) (usual n : ℕ) → AtMostWorkers us → AtMostWorkers ts → ((m k : ℕ) → set m ≢ Workers k) → IsLimit ((before ++ us) ++ behind) set usual n → IsLimit ((before ++ ts) ++ behind) set usual n
-  limit_stays us ts set usual n most most' other x = record {
+  limit_stays : (us ts : List Setting) (set : ℕ → Setting) (default n : ℕ) → AtMostWorkers us → AtMostWorkers ts → ((m k : ℕ) → set m ≢ Workers k) → IsLimit ((before ++ us) ++ behind) set default n → IsLimit ((before ++ ts) ++ behind) set default n
+  limit_stays us ts set default n most most' other x = record {
     given = λ k at. x.given k (others_stay ts us (set k) most' (other k) at);
-    else_usual = λ none. x.else_usual (λ k at. none k (others_stay us ts (set k) most (other k) at));
+    else_default = λ none. x.else_default (λ k at. none k (others_stay us ts (set k) most (other k) at));
   }
 
   -- and still no two are of one kind
@@ -71,18 +72,18 @@ may_set (word ∷ words) us (inl e) are = absurd (no_more word words (subst (Are
 
 module _ (more others : List (List ℕ)) (flag number : List ℕ) (n : ℕ) (us : List Setting) (most : AtMostWorkers us) (is : IsSetting flag number (Workers n)) (are : AreSettings others us) where
   -- the limits stay
-  says_same : (front : List (List ℕ)) (limits : Limits) → SaysLimits ((front ++ flag ∷ number ∷ []) ++ more) limits → SaysLimits ((front ++ others) ++ more) limits
-  says_same front limits says =
-      let b = between front more flag number (Workers n) says.settings is says.are in
-      let left : AreLimits ((b.before ++ Workers n ∷ []) ++ b.behind) limits = subst (λ (ss : List Setting). AreLimits ss limits) b.all_is says.left in
+  gives_same : (front : List (List ℕ)) (limits : Limits) → GiveLimits ((front ++ flag ∷ number ∷ []) ++ more) limits → GiveLimits ((front ++ others) ++ more) limits
+  gives_same front limits gives =
+      let b = between front more flag number (Workers n) gives.settings is gives.are in
+      let left : AreLimits ((b.before ++ Workers n ∷ []) ++ b.behind) limits = subst (λ (ss : List Setting). AreLimits ss limits) b.all_is gives.left in
       let set : AtMostWorkers (Workers n ∷ []) = inr (n, refl) in
       record {
         settings = (b.before ++ us) ++ b.behind;
         are = joined (front ++ others) more (b.before ++ us) b.behind (joined front others b.before us b.are_before are) b.are_behind;
-        once = once_stays b.before b.behind us n most (subst AreOnce b.all_is says.once);
+        once = once_stays b.before b.behind us n most (subst AreOnce b.all_is gives.once);
         left = record {
-          fuel = limit_stays b.before b.behind (Workers n ∷ []) us Fuel 100000000 limits.fuel set most (λ m k e. cc) left.fuel;
-          net = limit_stays b.before b.behind (Workers n ∷ []) us Net 65536 limits.net set most (λ m k e. cc) left.net;
+          fuel = limit_stays b.before b.behind (Workers n ∷ []) us Fuel default_fuel limits.fuel set most (λ m k e. cc) left.fuel;
+          net = limit_stays b.before b.behind (Workers n ∷ []) us Net default_leaves limits.net set most (λ m k e. cc) left.net;
         };
       }
 
@@ -93,7 +94,7 @@ module _ (more others : List (List ℕ)) (flag number : List ℕ) (n : ℕ) (us 
       record {
         more = (front ++ others) ++ more;
         first = ap (λ w. w ∷ ((front ++ others) ++ more)) (let h : first ≡ word = cc in h);
-        says = says_same front limits (subst (λ (ws : List (List ℕ)). SaysLimits ws limits) behind x.says);
+        given = gives_same front limits (subst (λ (ws : List (List ℕ)). GiveLimits ws limits) behind x.given);
       }
 
   -- the words are not empty

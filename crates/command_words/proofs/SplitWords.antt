@@ -3,7 +3,7 @@ use Rattle.std.proofs.Common.{◌≡◌, ℕ, ◌-◌, ◌≤◌, List, [], ◌�
 use Rattle.command_words.specs.declared.settings.Limits.{Limits}
 use Rattle.command_words.specs.declared.settings.Setting.{Setting}
 use Rattle.command_words.specs.declared.settings.Settings.{Settings}
-use Rattle.command_words.specs.Settings.{AreLimits, AreOnce, AreSettings, IsSetting, KeepsSettings, SaysLimits}
+use Rattle.command_words.specs.Settings.{AreLimits, AreOnce, AreSettings, IsSetting, KeepsSettings, GiveLimits}
 use Rattle.command_words.proofs.OnceSettings.{once_front}
 use Rattle.command_words.proofs.SettingWords.{one_setting}
 
@@ -36,10 +36,10 @@ one_more_read words rest flag number kept more s x is keeps = record {
 }
 
 -- the next setting would be the second of its kind
-second_refused : (words rest : List (List ℕ)) (flag number : List ℕ) (kept : Settings) (s : Setting) → (x : IsSplit words (flag ∷ number ∷ rest) kept) → IsSetting flag number s → (AreOnce (x.read ++ s ∷ []) → ⊥) → (limits : Limits) → SaysLimits words limits → ⊥
-second_refused words rest flag number kept s x is twice limits says =
-    let all = all_next words rest flag number kept s says.settings x is says.are in
-    twice (once_front (x.read ++ s ∷ []) all.0 (subst AreOnce all.2 says.once))
+second_refused : (words rest : List (List ℕ)) (flag number : List ℕ) (kept : Settings) (s : Setting) → (x : IsSplit words (flag ∷ number ∷ rest) kept) → IsSetting flag number s → (AreOnce (x.read ++ s ∷ []) → ⊥) → (limits : Limits) → GiveLimits words limits → ⊥
+second_refused words rest flag number kept s x is twice limits gives =
+    let all = all_next words rest flag number kept s gives.settings x is gives.are in
+    twice (once_front (x.read ++ s ∷ []) all.0 (subst AreOnce all.2 gives.once))
 
 -- the first two, and the slice behind them
 first_two : {X : Type 0} (xs : List X) (a b : X) → 2 ≤ length xs → a ≡ get_or xs 0 a → b ≡ get_or xs 1 b → xs ≡ a ∷ b ∷ take (length xs - 2) (drop 2 xs)
@@ -58,13 +58,13 @@ module _ {X : Type 0} (text : X → List ℕ) where
 
   -- and are the second setting of a kind
   pub two_refused : (words : List (List ℕ)) (rest : List X) (flag number : X) (kept : Settings) (s : Setting) → 2 ≤ length rest → flag ≡ get_or rest 0 flag → number ≡ get_or rest 1 number
-      → IsSplit words (map text rest) kept → IsSetting (text flag) (text number) s → ((ss : List Setting) → KeepsSettings kept ss → AreOnce (ss ++ s ∷ []) → ⊥) → (limits : Limits) → SaysLimits words limits → ⊥
+      → IsSplit words (map text rest) kept → IsSetting (text flag) (text number) s → ((ss : List Setting) → KeepsSettings kept ss → AreOnce (ss ++ s ∷ []) → ⊥) → (limits : Limits) → GiveLimits words limits → ⊥
   two_refused words rest flag number kept s long first second x is twice =
       let x' = subst (λ (ws : List X). IsSplit words (map text ws) kept) (first_two rest flag number long first second) x in
       second_refused words (map text (take (length rest - 2) (drop 2 rest))) (text flag) (text number) kept s x' is (twice x'.read x'.keeps)
 
   -- nothing is left to read
-  pub all_read : (words : List (List ℕ)) (rest : List X) (kept : Settings) (limits : Limits) → length rest ≡ 0 → IsSplit words (map text rest) kept → ((ss : List Setting) → KeepsSettings kept ss → AreLimits ss limits) → SaysLimits words limits
+  pub all_read : (words : List (List ℕ)) (rest : List X) (kept : Settings) (limits : Limits) → length rest ≡ 0 → IsSplit words (map text rest) kept → ((ss : List Setting) → KeepsSettings kept ss → AreLimits ss limits) → GiveLimits words limits
   all_read words [] kept limits none x left = record {
     settings = x.read;
     are = subst (AreSettings words) (append-nil x.read) (x.joins [] tt);

@@ -2,22 +2,23 @@
 use Rattle.std.specs.Prelude.{◌≡◌, ◌≢◌, ℕ, ◌≤◌, List, [], ◌∷◌, length, codes, AllPairs, Contains, Option, Some, ◌↔◌, ⊤}
 use Rattle.std.specs.Int.{IsInRange}
 use Rattle.std.specs.Str.Parse.{IsNumeral, digits_value}
+use Rattle.command_words.specs.Limits.{most_word_digits, most_workers, default_fuel, most_leaves, default_leaves}
 use Rattle.command_words.specs.declared.settings.Limits.{Limits}
 use Rattle.command_words.specs.declared.settings.Setting.{Setting}
 use Rattle.command_words.specs.declared.settings.Setting.TheVariants.{Workers, Fuel, Net}
 use Rattle.command_words.specs.declared.settings.Settings.{Settings}
 
--- the word is one to nine digits, which write this number
+-- the word is one digit or more, but not too many, which write this number
 pub record IsNumber (word : List ℕ) (n : ℕ) : Type 0 where
   pub digits : IsNumeral 10 word
-  pub short : length word ≤ 9
+  pub short : length word ≤ most_word_digits
   pub value : n ≡ digits_value 10 word
 
--- there are 1 to 64 workers and 1 to 65,536 leaves, and any number is a fuel
+-- there is a worker and a leaf at least, and not too many of them; any number is a fuel
 abbrev pub IsAllowed : Setting → Type 0
-IsAllowed (Workers n) = IsInRange 1 64 n
+IsAllowed (Workers n) = IsInRange 1 most_workers n
 IsAllowed (Fuel n) = ⊤
-IsAllowed (Net n) = IsInRange 1 65536 n
+IsAllowed (Net n) = IsInRange 1 most_leaves n
 
 -- the word in front of a setting's number
 abbrev pub flag_of : Setting → List ℕ
@@ -47,18 +48,18 @@ AreSettings _ _ = ⊥
 abbrev pub AreOnce : List Setting → Type 0
 AreOnce ss = AllPairs (λ a b. flag_of a ≢ flag_of b) ss
 
--- a limit is the number that is set for it, or this one where none is set
-pub record IsLimit (ss : List Setting) (set : ℕ → Setting) (usual n : ℕ) : Type 0 where
+-- a limit is the number that is set for it, or the default where none is set
+pub record IsLimit (ss : List Setting) (set : ℕ → Setting) (default n : ℕ) : Type 0 where
   pub given : (k : ℕ) → Contains ss (set k) → n ≡ k
-  pub else_usual : ((k : ℕ) → Contains ss (set k) → ⊥) → n ≡ usual
+  pub else_default : ((k : ℕ) → Contains ss (set k) → ⊥) → n ≡ default
 
--- the limits that these settings leave: 100,000,000 agents, and 65,536 leaves, where nothing else is set
+-- the limits that these settings leave, with the defaults where nothing else is set
 pub record AreLimits (ss : List Setting) (limits : Limits) : Type 0 where
-  pub fuel : IsLimit ss Fuel 100000000 limits.fuel
-  pub net : IsLimit ss Net 65536 limits.net
+  pub fuel : IsLimit ss Fuel default_fuel limits.fuel
+  pub net : IsLimit ss Net default_leaves limits.net
 
--- the words say these limits
-pub record SaysLimits (words : List (List ℕ)) (limits : Limits) : Type 0 where
+-- the words are settings, each kind once at most, that leave these limits
+pub record GiveLimits (words : List (List ℕ)) (limits : Limits) : Type 0 where
   pub settings : List Setting
   pub are : AreSettings words settings
   pub once : AreOnce settings

@@ -5,13 +5,14 @@ use Rattle.command_words.specs.declared.command.Command.{Command}
 use Rattle.command_words.specs.declared.command.Command.TheVariants.{Run, Report, Check, Core, Generate}
 use Rattle.command_words.specs.declared.settings.Limits.{Limits}
 use Rattle.command_words.specs.declared.settings.Setting.TheVariants.{Workers}
-use Rattle.command_words.specs.Settings.{AreSettings, IsNumber, SaysLimits}
+use Rattle.command_words.specs.Limits.{most_generated_lines}
+use Rattle.command_words.specs.Settings.{AreSettings, IsNumber, GiveLimits}
 
--- this word stands first, and the others say the limits
+-- this word stands first, and the others give the limits
 pub record IsWithLimits (word : List ℕ) (words : List (List ℕ)) (limits : Limits) : Type 0 where
   pub more : List (List ℕ)
   pub first : words ≡ word ∷ more
-  pub says : SaysLimits more limits
+  pub given : GiveLimits more limits
 
 -- the words are `--workers` and a number of workers
 abbrev pub SetsWorkers : List (List ℕ) → Type 0
@@ -21,13 +22,13 @@ SetsWorkers words = (n : ℕ) × AreSettings words (Workers n ∷ [])
 abbrev pub MaySetWorkers : List (List ℕ) → Type 0
 MaySetWorkers words = (words ≡ []) ⊎ SetsWorkers words
 
--- `gen` stands first, then a number of lines, 1 to 65,536, and the others may set the workers
+-- `gen` stands first, then a number of lines, one at least and not too many, and the others may set the workers
 pub record IsWithLines (words : List (List ℕ)) (lines : ℕ) : Type 0 where
   pub number : List ℕ
   pub more : List (List ℕ)
   pub first : words ≡ codes "gen" ∷ number ∷ more
   pub writes : IsNumber number lines
-  pub allowed : IsInRange 1 65536 lines
+  pub allowed : IsInRange 1 most_generated_lines lines
   pub workers : MaySetWorkers more
 
 -- the words are those of the command

@@ -4,6 +4,9 @@ ghost use Rattle.command_words.specs.Words.{IsCommand, IsNoCommand, IsWithLines,
 
 use crate::settings::{Limits, Setting, limits_of, number_of, setting_of};
 
+/// The most lines of a generated trace.
+pub const MOST_GENERATED_LINES: u32 = 65_536;
+
 /// What the tool is told to do.
 #[derive(Clone, Copy, Debug, PartialEq, Eq)]
 pub enum Command {
@@ -40,7 +43,7 @@ fn lines_of(words: &[String]) -> Option<u32>
 {
     let (number, more) = words.split_first()?;
     match number_of(number.as_str())? {
-        lines @ 1..=65_536 if may_set_workers(more) => Some(lines),
+        lines @ 1..=MOST_GENERATED_LINES if may_set_workers(more) => Some(lines),
         _ => None,
     }
 }

@@ -1,7 +1,15 @@
 //! Laws of words. Each is a function that computes nothing, and its contract is the law.
-ghost use Rattle.std.specs.Prelude.{◌≡◌, ◌++◌, List, ℕ};
+ghost use Rattle.std.specs.Prelude.{◌≡◌, ◌≤◌, ◌++◌, List, ℕ};
 ghost use Rattle.command_words.specs.declared.command.Command.{Command};
+ghost use Rattle.command_words.specs.declared.settings.Limits.{Limits};
+ghost use Rattle.command_words.specs.Limits as most;
+ghost use Rattle.command_words.specs.Settings.{GiveLimits};
 ghost use Rattle.command_words.specs.Words.{CallAlike, IsCommand, SetsWorkers};
+
+use crate::command::MOST_GENERATED_LINES;
+use crate::settings::{
+    DEFAULT_FUEL, DEFAULT_LEAVES, GREATEST_FUEL, MOST_LEAVES, MOST_WORD_DIGITS, MOST_WORKERS,
+};
 
 /// Words are those of one command at most.
 pub fn command_law()
@@ -15,4 +23,20 @@ pub fn workers_law()
         → CallAlike (front ++ workers ++ more) (front ++ others ++ more) }
     ensures left_out { (front more workers : List (List ℕ)) (command : Command) → SetsWorkers workers
         → IsCommand command (front ++ workers ++ more) → CallAlike (front ++ workers ++ more) (front ++ more) }
+{}
+
+/// The greatest numbers and the defaults of the code are those that the definitions name, and the limits that words
+/// give are at most the greatest.
+pub fn limits_law()
+    ensures digits { MOST_WORD_DIGITS ≡ most.most_word_digits }
+    ensures workers { MOST_WORKERS ≡ most.most_workers }
+    ensures lines { MOST_GENERATED_LINES ≡ most.most_generated_lines }
+    ensures fuels { GREATEST_FUEL ≡ most.greatest_fuel }
+    ensures default_fuel { DEFAULT_FUEL ≡ most.default_fuel }
+    ensures leaves { MOST_LEAVES ≡ most.most_leaves }
+    ensures default_leaves { DEFAULT_LEAVES ≡ most.default_leaves }
+
+    // The limits that words give are no greater.
+    ensures fuel { (words : List (List ℕ)) (limits : Limits) → GiveLimits words limits → limits.fuel ≤ most.greatest_fuel }
+    ensures net { (words : List (List ℕ)) (limits : Limits) → GiveLimits words limits → limits.net ≤ most.most_leaves }
 {}

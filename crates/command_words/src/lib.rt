@@ -7,6 +7,9 @@ mod settings;
 #[cfg(test)]
 mod tests;
 
-pub use command::{Command, command_of};
-pub use laws::{command_law, workers_law};
-pub use settings::Limits;
+pub use command::{Command, MOST_GENERATED_LINES, command_of};
+pub use laws::{command_law, limits_law, workers_law};
+pub use settings::{
+    DEFAULT_FUEL, DEFAULT_LEAVES, GREATEST_FUEL, Limits, MOST_LEAVES, MOST_WORD_DIGITS,
+    MOST_WORKERS,
+};

@@ -13,7 +13,9 @@ fn called(alloc: Global, line: &str) -> Result<Option<Command>, AllocError> {
 }
 
 #[test]
-fn a_run_has_the_limits_that_are_set_and_else_the_usual_ones(rt: HostRuntime) -> Result<(), Fail> {
+fn a_run_has_the_limits_that_are_set_and_else_the_default_ones(
+    rt: HostRuntime,
+) -> Result<(), Fail> {
     for (line, fuel, net) in [
         ("run", 100_000_000, 65_536),
         ("run --workers 1", 100_000_000, 65_536),

@@ -149,6 +149,19 @@ fn units_nest_8192_deep(rt: HostRuntime) -> Result<(), Fail> {
 }
 
 #[test]
+fn a_program_nests_4096_nodes_deep(rt: HostRuntime) -> Result<(), Fail> {
+    let alloc = rt.alloc();
+    let deepest = repeated(alloc, b"", 4_095, b"next ", b"skip")?;
+    let made = read_core(alloc, &deepest)?;
+    assert_eq!(rt; made.nodes().len(), 4_096);
+    assert!(rt; matches!(made.nodes().get(4_094), Some(Node::Next { body: 4_095 })));
+    assert!(rt; matches!(made.nodes().get(4_095), Some(Node::Skip)));
+    let deeper = repeated(alloc, b"", 4_096, b"next ", b"skip")?;
+    assert_eq!(rt; refusal(alloc, &deeper), Some(ReadFault::TooManyNodes));
+    Ok(())
+}
+
+#[test]
 fn nodes_are_told_before_cells(rt: HostRuntime) -> Result<(), Fail> {
     let alloc = rt.alloc();
     let most = repeated(alloc, b"", 2_047, b"skip || ", b"hence skip")?;

@@ -4,13 +4,13 @@ use Rattle.std.specs.Prelude.{All, Contains, slice_index, slice_index_or, sum}
 use Rattle.std.proofs.lemmas.List.{get_or-set_same, get_or-set_other, length-set}
 use Rattle.std.proofs.lemmas.List.Sums.{sum_by-set, sum_by-cons}
 use Rattle.std.proofs.lemmas.Bool.Decides.{eqb_tells}
-use Rattle.order_tables.specs.declared.arc.Arc.{Arc}
-use Rattle.order_tables.specs.Arcs.{needs, Meets, Within, HasTable, IsLeast, IsRaised}
+use Rattle.order_tables.specs.declared.bound.Bound.{Bound}
+use Rattle.order_tables.specs.Bounds.{needs, Satisfies, Within, HasTable, IsLeast, IsRaised}
 use Rattle.order_tables.proofs.Lists.{any_default, all_at, stands}
-use Rattle.order_tables.proofs.Tables.{ranks, ranks-meet, ranks-below, good_arcs}
+use Rattle.order_tables.proofs.Tables.{ranks, ranks-meet, ranks-below, good_bounds}
 
--- an arc to read past the end of a list by
-abbrev pub nil : Arc
+-- a bound to read past the end of a list by
+abbrev pub nil : Bound
 nil = record { low = 0; high = 0; negative = false }
 
 -- what holds of the number put, and of the others, holds of each
@@ -24,18 +24,18 @@ set_each P t h v in_range here other k lt =
     go within (inr e) = subst (P k) (sym (get_or-set_other t h k v 0 e.1)) (other k within)
 
 -- what the least table needs is less than the number of items
-pub needs-below : (arcs : List Arc) (t : List ℕ) (a : Arc) → Contains arcs a → All (Within (length t)) arcs → HasTable arcs → IsLeast arcs t → needs t a < length t
-needs-below arcs t a i within some least =
-    let good = good_arcs arcs some in
-    let w = all_at (Within (length t)) arcs a within i in
-    let le = least (ranks arcs (length t) within good) (ranks-meet arcs (length t) within good) a.low w.0 in
-    let m : Meets (ranks arcs (length t) within good) a = all_at (Meets (ranks arcs (length t) within good)) arcs a (ranks-meet arcs (length t) within good) i in
-    let l = ranks-below arcs (length t) within good a.high w.1 in
+pub needs-below : (bounds : List Bound) (t : List ℕ) (a : Bound) → Contains bounds a → All (Within (length t)) bounds → HasTable bounds → IsLeast bounds t → needs t a < length t
+needs-below bounds t a i within some least =
+    let good = good_bounds bounds some in
+    let w = all_at (Within (length t)) bounds a within i in
+    let le = least (ranks bounds (length t) within good) (ranks-meet bounds (length t) within good) a.low w.0 in
+    let m : Satisfies (ranks bounds (length t) within good) a = all_at (Satisfies (ranks bounds (length t) within good)) bounds a (ranks-meet bounds (length t) within good) i in
+    let l = ranks-below bounds (length t) within good a.high w.1 in
     omega arith
 
-set-least : (arcs : List Arc) (t : List ℕ) (a : Arc) → Contains arcs a → Within (length t) a → IsLeast arcs t → IsLeast arcs (set t a.high (needs t a))
-set-least arcs t a i w least other meets =
-    let m : Meets other a = all_at (Meets other) arcs a meets i in
+set-least : (bounds : List Bound) (t : List ℕ) (a : Bound) → Contains bounds a → Within (length t) a → IsLeast bounds t → IsLeast bounds (set t a.high (needs t a))
+set-least bounds t a i w least other meets =
+    let m : Satisfies other a = all_at (Satisfies other) bounds a meets i in
     let low = least other meets a.low w.0 in
     set_each (λ k x. x ≤ slice_index other k) t a.high (needs t a) w.1 (omega arith) (least other meets)
 
@@ -54,49 +54,49 @@ sum-most n (x ∷ t) h =
     let row : n * length (x ∷ t) ≡ n + n * length t = one_row n (length t) in
     omega arith
 
--- what stands after some arcs, where the table was `start`
-abbrev pub Kept : List Arc → List ℕ → List ℕ → ℕ → Bool → Type 0
-Kept arcs start t i changed =
+-- what stands after some bounds, where the table was `start`
+abbrev pub Kept : List Bound → List ℕ → List ℕ → ℕ → Bool → Type 0
+Kept bounds start t i changed =
     record {
-      least : IsLeast arcs t;
+      least : IsLeast bounds t;
       kept : changed ≡ false → t ≡ start;
-      met : changed ≡ false → (k : ℕ) (d : Arc) → k < i → Meets t (slice_index_or arcs k d);
+      met : changed ≡ false → (k : ℕ) (d : Bound) → k < i → Satisfies t (slice_index_or bounds k d);
       more : changed ≡ true → sum start < sum t;
     }
 
-one_further : (arcs : List Arc) (t : List ℕ) (i : ℕ) (d : Arc) → i < length arcs → ((k : ℕ) (d : Arc) → k < i → Meets t (slice_index_or arcs k d)) → Meets t (slice_index_or arcs i d) → (k : ℕ) (d : Arc) → k < i + 1 → Meets t (slice_index_or arcs k d)
-one_further arcs t i d lt before here k e at = go (lt_or_same k i (omega arith))
+one_further : (bounds : List Bound) (t : List ℕ) (i : ℕ) (d : Bound) → i < length bounds → ((k : ℕ) (d : Bound) → k < i → Satisfies t (slice_index_or bounds k d)) → Satisfies t (slice_index_or bounds i d) → (k : ℕ) (d : Bound) → k < i + 1 → Satisfies t (slice_index_or bounds k d)
+one_further bounds t i d lt before here k e at = go (lt_or_same k i (omega arith))
   where
     lt_or_same : (k i : ℕ) → k ≤ i → (k < i) ⊎ (k ≡ i)
     lt_or_same k i le = grind arith
 
-    go : (k < i) ⊎ (k ≡ i) → Meets t (slice_index_or arcs k e)
+    go : (k < i) ⊎ (k ≡ i) → Satisfies t (slice_index_or bounds k e)
     go (inl below) = before k e below
-    go (inr same) = subst (λ (j : ℕ). Meets t (slice_index_or arcs j e)) (sym same) (subst (Meets t) (any_default arcs i d e lt) here)
+    go (inr same) = subst (λ (j : ℕ). Satisfies t (slice_index_or bounds j e)) (sym same) (subst (Satisfies t) (any_default bounds i d e lt) here)
 
--- one arc more
-module _ (arcs : List Arc) (start t : List ℕ) (i : ℕ) (d : Arc) (changed : Bool) (lt : i < length arcs) (h : Kept arcs start t i changed) where
-  pub kept-same : (new : List ℕ) → IsRaised (slice_index_or arcs i d) t new false → Kept arcs start new (i + 1) changed
-  kept-same new r = subst (λ (x : List ℕ). Kept arcs start x (i + 1) changed) (sym r.0) (record {
+-- one bound more
+module _ (bounds : List Bound) (start t : List ℕ) (i : ℕ) (d : Bound) (changed : Bool) (lt : i < length bounds) (h : Kept bounds start t i changed) where
+  pub kept-same : (new : List ℕ) → IsRaised (slice_index_or bounds i d) t new false → Kept bounds start new (i + 1) changed
+  kept-same new r = subst (λ (x : List ℕ). Kept bounds start x (i + 1) changed) (sym r.0) (record {
     least = h.least;
     kept = h.kept;
-    met = λ same. one_further arcs t i d lt (h.met same) r.1;
+    met = λ same. one_further bounds t i d lt (h.met same) r.1;
     more = h.more;
   })
 
-  abbrev a : Arc
-  a = slice_index_or arcs i d
+  abbrev a : Bound
+  a = slice_index_or bounds i d
 
   more_yet : (b : Bool) → changed ≡ b → sum t < sum (set t a.high (needs t a)) → sum start < sum (set t a.high (needs t a))
   more_yet true e grows = let m = h.more e in omega arith
   more_yet false e grows = let m : sum t ≡ sum start = ap sum (h.kept e) in omega arith
 
-  pub kept-more : (new : List ℕ) → All (Within (length t)) arcs → IsRaised a t new true → Kept arcs start new (i + 1) true
+  pub kept-more : (new : List ℕ) → All (Within (length t)) bounds → IsRaised a t new true → Kept bounds start new (i + 1) true
   kept-more new within r =
       let w : Within (length t) a = within i d lt in
       let grows = set-sum t a.high (needs t a) w.1 r.1 in
-      subst (λ (x : List ℕ). Kept arcs start x (i + 1) true) (sym r.0) (record {
-        least = set-least arcs t a (stands arcs i d lt) w h.least;
+      subst (λ (x : List ℕ). Kept bounds start x (i + 1) true) (sym r.0) (record {
+        least = set-least bounds t a (stands bounds i d lt) w h.least;
         kept = λ e. absurd (cc);
         met = λ e. absurd (cc);
         more = λ e. more_yet changed refl grows;

@@ -1,38 +1,38 @@
--- There is a table exactly where no negative arc closes a circle.
+-- There is a table exactly where no negative bound closes a circle.
 use Rattle.std.proofs.Common.{◌≡◌, ◌⊎◌, inl, inr, ℕ, zero, suc, ◌+◌, ◌-◌, ◌<◌, ◌≤◌, Bool, true, false, List, length, map, refl, sym, ap, subst, arith}
 use Rattle.std.specs.Prelude.{IsTrue, All, Contains, slice_index, if◌then◌else◌}
 use Rattle.std.specs.List.{range_with_len}
 use Rattle.std.proofs.lemmas.List.FromFn.{get_or-map-range_with_len}
-use Rattle.order_tables.specs.declared.arc.Arc.{Arc}
-use Rattle.order_tables.specs.Arcs.{Meets, Within, HasTable, IsLeast, Chain, Reaches}
+use Rattle.order_tables.specs.declared.bound.Bound.{Bound}
+use Rattle.order_tables.specs.Bounds.{Satisfies, Within, HasTable, IsLeast, Path, HasPath}
 use Rattle.order_tables.proofs.Lists.{all_at, all_by}
-use Rattle.order_tables.proofs.Spread.{true_false, reaches, reaches-to, reaches-on, chain-reaches}
+use Rattle.order_tables.proofs.Spread.{true_false, reaches, reaches-to, reaches-on, path-reaches}
 
--- the arc is negative, and its high end reaches its low one
-abbrev pub IsBad : List Arc → Arc → Type 0
-IsBad arcs e = (e.negative ≡ true) × Reaches arcs e.high e.low
+-- the bound is negative, and its high end reaches its low one
+abbrev pub IsBad : List Bound → Bound → Type 0
+IsBad bounds e = (e.negative ≡ true) × HasPath bounds e.high e.low
 
 -- CHAINS
 
--- numbers do not fall along a chain
-pub chain-le : (arcs : List Arc) (table : List ℕ) → All (Meets table) arcs → (n a b : ℕ) → Chain arcs a b n → slice_index table a ≤ slice_index table b
-chain-le arcs table meets zero a b chain = let e = ap (slice_index table) chain in omega arith
-chain-le arcs table meets (suc n) a b (e, chain, i, is) =
-    let before = chain-le arcs table meets n a e.low chain in
+-- numbers do not fall along a path
+pub path-le : (bounds : List Bound) (table : List ℕ) → All (Satisfies table) bounds → (n a b : ℕ) → Path bounds a b n → slice_index table a ≤ slice_index table b
+path-le bounds table meets zero a b path = let e = ap (slice_index table) path in omega arith
+path-le bounds table meets (suc n) a b (e, path, i, is) =
+    let before = path-le bounds table meets n a e.low path in
     let at : slice_index table e.high ≡ slice_index table b = ap (slice_index table) is in
-    let step = weak (slice_index table e.low) (slice_index table e.high) e.negative (all_at (Meets table) arcs e meets i) in
+    let step = weak (slice_index table e.low) (slice_index table e.high) e.negative (all_at (Satisfies table) bounds e meets i) in
     omega arith
   where
     weak : (x y : ℕ) (s : Bool) → x + (if s then 1 else 0) ≤ y → x ≤ y
     weak x y true h = omega arith
     weak x y false h = omega arith
 
--- a bad arc leaves no table
-pub bad-none : (arcs : List Arc) (e : Arc) → Contains arcs e → IsBad arcs e → HasTable arcs → ⊥
-bad-none arcs e i bad (table, meets) =
-    let up = chain-le arcs table meets bad.1.0 e.high e.low bad.1.1 in
+-- a bad bound leaves no table
+pub bad-none : (bounds : List Bound) (e : Bound) → Contains bounds e → IsBad bounds e → HasTable bounds → ⊥
+bad-none bounds e i bad (table, meets) =
+    let up = path-le bounds table meets bad.1.0 e.high e.low bad.1.1 in
     let step : slice_index table e.low + 1 ≤ slice_index table e.high =
-    subst (λ (s : Bool). slice_index table e.low + (if s then 1 else 0) ≤ slice_index table e.high) bad.0 (all_at (Meets table) arcs e meets i) in
+    subst (λ (s : Bool). slice_index table e.low + (if s then 1 else 0) ≤ slice_index table e.high) bad.0 (all_at (Satisfies table) bounds e meets i) in
     omega arith
 
 -- COUNTING
@@ -78,33 +78,33 @@ count-most f (suc n) = let h = count-most f n in grind arith
 -- THE TABLE
 
 -- each item is numbered by how many others reach it
-module _ (arcs : List Arc) (size : ℕ) (within : All (Within size) arcs) (good : All (λ e. IsBad arcs e → ⊥) arcs) where
+module _ (bounds : List Bound) (size : ℕ) (within : All (Within size) bounds) (good : All (λ e. IsBad bounds e → ⊥) bounds) where
   abbrev rank : ℕ → ℕ
-  rank x = count (λ y. reaches arcs y x) size - 1
+  rank x = count (λ y. reaches bounds y x) size - 1
 
   abbrev pub ranks : List ℕ
   ranks = map rank (range_with_len 0 size)
 
-  itself : (x : ℕ) → IsTrue (reaches arcs x x)
-  itself x = chain-reaches arcs 0 x x refl
+  itself : (x : ℕ) → IsTrue (reaches bounds x x)
+  itself x = path-reaches bounds 0 x x refl
 
-  rank-some : (x : ℕ) → x < size → 0 < count (λ y. reaches arcs y x) size
+  rank-some : (x : ℕ) → x < size → 0 < count (λ y. reaches bounds y x) size
   rank-some x lt =
-      let h = count-lt (λ y. false) (λ y. reaches arcs y x) (λ y h. absurd (true_false (sym h))) x refl (itself x) size lt in
+      let h = count-lt (λ y. false) (λ y. reaches bounds y x) (λ y h. absurd (true_false (sym h))) x refl (itself x) size lt in
       omega arith
 
-  not_back : (e : Arc) → Contains arcs e → e.negative ≡ true → (b : Bool) → reaches arcs e.high e.low ≡ b → b ≡ false
-  not_back e i s true eb = absurd (all_at (λ e. IsBad arcs e → ⊥) arcs e good i (s, reaches-to arcs e.high e.low eb))
+  not_back : (e : Bound) → Contains bounds e → e.negative ≡ true → (b : Bool) → reaches bounds e.high e.low ≡ b → b ≡ false
+  not_back e i s true eb = absurd (all_at (λ e. IsBad bounds e → ⊥) bounds e good i (s, reaches-to bounds e.high e.low eb))
   not_back e i s false eb = refl
 
-  rank-meets : (e : Arc) → Contains arcs e → (s : Bool) → e.negative ≡ s → rank e.low + (if s then 1 else 0) ≤ rank e.high
+  rank-meets : (e : Bound) → Contains bounds e → (s : Bool) → e.negative ≡ s → rank e.low + (if s then 1 else 0) ≤ rank e.high
   rank-meets e i false es =
-      let h = count-le (λ y. reaches arcs y e.low) (λ y. reaches arcs y e.high) (λ y. reaches-on arcs y e i) size in
+      let h = count-le (λ y. reaches bounds y e.low) (λ y. reaches bounds y e.high) (λ y. reaches-on bounds y e i) size in
       omega arith
   rank-meets e i true es =
-      let w = all_at (Within size) arcs e within i in
+      let w = all_at (Within size) bounds e within i in
       let some = rank-some e.low w.0 in
-      let h = count-lt (λ y. reaches arcs y e.low) (λ y. reaches arcs y e.high) (λ y. reaches-on arcs y e i) e.high (not_back e i es (reaches arcs e.high e.low) refl) (itself e.high) size w.1 in
+      let h = count-lt (λ y. reaches bounds y e.low) (λ y. reaches bounds y e.high) (λ y. reaches-on bounds y e i) e.high (not_back e i es (reaches bounds e.high e.low) refl) (itself e.high) size w.1 in
       omega arith
 
   at_rank : (x : ℕ) → x < size → slice_index ranks x ≡ rank x
@@ -113,24 +113,24 @@ module _ (arcs : List Arc) (size : ℕ) (within : All (Within size) arcs) (good 
   pub ranks-below : (x : ℕ) → x < size → slice_index ranks x < size
   ranks-below x lt =
       let h = rank-some x lt in
-      let k = count-most (λ y. reaches arcs y x) size in
+      let k = count-most (λ y. reaches bounds y x) size in
       let e = at_rank x lt in
       omega arith
 
-  pub ranks-meet : All (Meets ranks) arcs
-  ranks-meet = all_by (Meets ranks) arcs (λ e i.
-      let w = all_at (Within size) arcs e within i in
+  pub ranks-meet : All (Satisfies ranks) bounds
+  ranks-meet = all_by (Satisfies ranks) bounds (λ e i.
+      let w = all_at (Within size) bounds e within i in
       subst (λ (k : ℕ). k + (if e.negative then 1 else 0) ≤ slice_index ranks e.high) (sym (at_rank e.low w.0))
       (subst (λ (k : ℕ). rank e.low + (if e.negative then 1 else 0) ≤ k) (sym (at_rank e.high w.1)) (rank-meets e i e.negative refl)))
 
--- where there is a table, no arc is bad
-pub good_arcs : (arcs : List Arc) → HasTable arcs → All (λ e. IsBad arcs e → ⊥) arcs
-good_arcs arcs some = all_by (λ e. IsBad arcs e → ⊥) arcs (λ e i bad. bad-none arcs e i bad some)
+-- where there is a table, no bound is bad
+pub good_bounds : (bounds : List Bound) → HasTable bounds → All (λ e. IsBad bounds e → ⊥) bounds
+good_bounds bounds some = all_by (λ e. IsBad bounds e → ⊥) bounds (λ e i bad. bad-none bounds e i bad some)
 
 -- so the least table stays below the number of the items
-pub least-below : (arcs : List Arc) (t : List ℕ) → All (Within (length t)) arcs → HasTable arcs → IsLeast arcs t → (k : ℕ) → k < length t → slice_index t k < length t
-least-below arcs t within some least k lt =
-    let good = good_arcs arcs some in
-    let le = least (ranks arcs (length t) within good) (ranks-meet arcs (length t) within good) k lt in
-    let l = ranks-below arcs (length t) within good k lt in
+pub least-below : (bounds : List Bound) (t : List ℕ) → All (Within (length t)) bounds → HasTable bounds → IsLeast bounds t → (k : ℕ) → k < length t → slice_index t k < length t
+least-below bounds t within some least k lt =
+    let good = good_bounds bounds some in
+    let le = least (ranks bounds (length t) within good) (ranks-meet bounds (length t) within good) k lt in
+    let l = ranks-below bounds (length t) within good k lt in
     omega arith

@@ -1,21 +1,21 @@
--- Which items arcs lead to, from item to item. This project's own.
+-- Which items bounds lead to, from item to item. This project's own.
 use Rattle.std.specs.Prelude.{◌≡◌, ◌⊎◌, ◌↔◌, ℕ, ◌<◌, Bool, false, IsTrue, List, [], length, map, filter, ◌==◌, All, Vec, slice_index_or}
 use Rattle.std.specs.declared.alloc.Global.{Global}
-use Rattle.order_tables.specs.declared.arc.Arc.{Arc}
-use Rattle.order_tables.specs.Arcs.{Reaches}
+use Rattle.order_tables.specs.declared.bound.Bound.{Bound}
+use Rattle.order_tables.specs.Bounds.{HasPath}
 
 -- the list with this number, and past the last one the empty list
 abbrev pub list_at : {X : Type 0} → List (Vec X Global) → ℕ → List X
 list_at vs n = slice_index_or (map (λ v. v.items) vs) n []
 
--- the items to which the arcs lead from item a
-abbrev pub highs : List Arc → ℕ → List ℕ
-highs arcs a = map (λ e. e.high) (filter (λ e. e.low == a) arcs)
+-- the items to which the bounds lead from item a
+abbrev pub highs : List Bound → ℕ → List ℕ
+highs bounds a = map (λ e. e.high) (filter (λ e. e.low == a) bounds)
 
--- for each of the items, those to which the arcs lead
-pub record AreNexts (size : ℕ) (arcs : List Arc) (nexts : List (Vec ℕ Global)) : Type 0 where
+-- for each of the items, those to which the bounds lead
+pub record AreNexts (size : ℕ) (bounds : List Bound) (nexts : List (Vec ℕ Global)) : Type 0 where
   pub long : length nexts ≡ size
-  pub each : (a : ℕ) → a < size → list_at nexts a ≡ highs arcs a
+  pub each : (a : ℕ) → a < size → list_at nexts a ≡ highs bounds a
 
 -- the item is marked
 abbrev pub has : List Bool → ℕ → Bool
@@ -41,7 +41,7 @@ pub record IsMarked (nexts : List (Vec ℕ Global)) (item : ℕ) (old new : List
   pub sound : (a : ℕ) → IsTrue (has new a) → IsTrue (has old a) ⊎ LeadsTo nexts item a
 
 -- row a has item b exactly where item a reaches item b
-pub record AreReaching (arcs : List Arc) (size count : ℕ) (rows : List (Vec Bool Global)) : Type 0 where
+pub record AreReaching (bounds : List Bound) (size count : ℕ) (rows : List (Vec Bool Global)) : Type 0 where
   pub long : length rows ≡ count
   pub wide : (a : ℕ) → a < count → length (list_at rows a) ≡ size
-  pub each : (a b : ℕ) → a < count → IsTrue (has (list_at rows a) b) ↔ Reaches arcs a b
+  pub each : (a b : ℕ) → a < count → IsTrue (has (list_at rows a) b) ↔ HasPath bounds a b

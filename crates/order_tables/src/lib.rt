@@ -1,10 +1,11 @@
-//! Arcs between numbered items: the least numbers that they ask for, and which items they join.
+//! Difference constraints: bounds between numbered items, the least numbers that satisfy them, and
+//! which items a path of bounds leads to.
 #![tactic(auto)]
 
-mod arc;
+mod bound;
 mod reach;
 mod table;
 
-pub use arc::Arc;
+pub use bound::Bound;
 pub use reach::reaching;
 pub use table::least_table;

@@ -1,8 +1,8 @@
 ghost use Rattle.std.specs.Prelude.{◌≡◌, ◌≤◌, ◌<◌, ◌^◌, ◌↔◌, [], ℕ, List, All, IfOk, IsTrue, length};
-ghost use Rattle.order_tables.specs.Arcs.{Within};
+ghost use Rattle.order_tables.specs.Bounds.{Within};
 ghost use Rattle.order_tables.specs.Reaching.{list_at, has, AreNexts, AreItems, AreReaching, LeadsTo, IsMarked};
 
-use crate::arc::Arc;
+use crate::bound::Bound;
 use std::alloc::{AllocError, Global};
 
 /// So many empty lists.
@@ -17,14 +17,14 @@ fn empty_lists(alloc: Global, size: u32) -> Result<Vec<Vec<u32>>, AllocError>
     Ok(lists)
 }
 
-/// For each item, those to which the arcs lead.
-fn nexts_of(alloc: Global, size: u32, arcs: &[Arc]) -> Result<Vec<Vec<u32>>, AllocError>
-    requires { All (Within size) arcs.now }
-    ensures { IfOk result (λ v. AreNexts size arcs.now v.items) }
+/// For each item, those to which the bounds lead.
+fn nexts_of(alloc: Global, size: u32, bounds: &[Bound]) -> Result<Vec<Vec<u32>>, AllocError>
+    requires { All (Within size) bounds.now }
+    ensures { IfOk result (λ v. AreNexts size bounds.now v.items) }
 {
     let mut nexts = empty_lists(alloc, size)?;
-    for arc in arcs {
-        nexts[arc.low as usize].push(arc.high)?;
+    for bound in bounds {
+        nexts[bound.low as usize].push(bound.high)?;
     }
     Ok(nexts)
 }
@@ -57,19 +57,19 @@ fn reached(alloc: Global, nexts: &[Vec<u32>], item: u32) -> Result<Vec<bool>, Al
     Ok(marks)
 }
 
-/// Which of `size` items each of the first `count` items reaches. It goes over the arcs once for
+/// Which of `size` items each of the first `count` items reaches. It goes over the bounds once for
 /// each of these.
 pub fn reaching(
     alloc: Global,
     size: u32,
-    arcs: &[Arc],
+    bounds: &[Bound],
     count: u32,
 ) -> Result<Vec<Vec<bool>>, AllocError>
-    requires within { All (Within size) arcs.now }
+    requires within { All (Within size) bounds.now }
     requires count { count ≤ size }
-    ensures { IfOk result (λ rows. AreReaching arcs.now size count rows.items) }
+    ensures { IfOk result (λ rows. AreReaching bounds.now size count rows.items) }
 {
-    let nexts = nexts_of(alloc, size, arcs)?;
+    let nexts = nexts_of(alloc, size, bounds)?;
     let mut rows = Vec::new(alloc);
     for item in 0..count {
         rows.push(reached(alloc, &nexts, item)?)?;

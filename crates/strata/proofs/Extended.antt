@@ -1,4 +1,4 @@
--- Each table that stratifies a program comes from one of its cells and nodes that meets the arcs: a node gets the least number of a cell that is told below it.
+-- Each table that stratifies a program comes from one of its cells and nodes that meets the bounds: a node gets the least number of a cell that is told below it.
 use Rattle.std.proofs.Common.{◌≡◌, inl, inr, ℕ, zero, suc, ◌+◌, ◌<◌, ◌≤◌, Bool, true, false, List, [], ◌∷◌, ◌++◌, length, map, refl, sym, ap, ◌∙◌, subst, arith}
 use Rattle.std.specs.Prelude.{All, slice_index, min, max, if◌then◌else◌}
 use Rattle.std.specs.List.{range_with_len}
@@ -9,12 +9,12 @@ use Rattle.agent_core.specs.Programs.{CoreProgram}
 use Rattle.agent_core.specs.WellFormed.{IsWellFormed}
 use Rattle.agent_core.specs.Strata.{Edge, edges, In, Each, Stratifies}
 use Rattle.agent_core.specs.Strata as strata
-use Rattle.order_tables.specs.declared.arc.Arc.{Arc}
-use Rattle.order_tables.specs.Arcs.{Meets, Within}
-use Rattle.strata.specs.Items.{arcs}
+use Rattle.order_tables.specs.declared.bound.Bound.{Bound}
+use Rattle.order_tables.specs.Bounds.{Satisfies, Within}
+use Rattle.strata.specs.Items.{program_bounds}
 use Rattle.strata.proofs.Members.{in_each, each_all, each-map}
 use Rattle.strata.proofs.Under.{tells}
-use Rattle.strata.proofs.Grounded.{ToldArc, DownArc, AskArc, Grounded, arcs-grounded}
+use Rattle.strata.proofs.Grounded.{ToldBound, DownBound, AskBound, Grounded, bounds-grounded}
 
 -- a number above all of the table
 above_all : List ℕ → ℕ
@@ -70,25 +70,25 @@ module _ (p : CoreProgram) (table : List ℕ) (s : Stratifies p table) where
       ap (slice_index full) (sym long) ∙ get_or-append-add table (map below (range_with_len 0 (length p.nodes))) n 0
       ∙ get_or-map-range_with_len below 0 (length p.nodes) n n 0 lt (omega arith)
 
-  told_meets : (e : Arc) → ToldArc p e → Meets full e
+  told_meets : (e : Bound) → ToldBound p e → Satisfies full e
   unfolding below
-  told_meets e g = subst (Meets full) (sym g.is) (
+  told_meets e g = subst (Satisfies full) (sym g.is) (
       let a = at_node g.from g.node in
       let b = at_cell g.told g.cell in
       let le = lowest-le table (above_all table) (tells p g.from) (g.below.0, g.told) g.below.1 in
       omega arith)
 
-  down_meets : (e : Arc) → DownArc p e → Meets full e
+  down_meets : (e : Bound) → DownBound p e → Satisfies full e
   unfolding below
-  down_meets e g = subst (Meets full) (sym g.is) (
+  down_meets e g = subst (Satisfies full) (sym g.is) (
       let a = at_node g.from g.node in
       let b = at_node g.to g.part in
       let le = le-lowest table (above_all table) (lowest table (above_all table) (tells p g.from)) (tells p g.to) (lowest-most table (above_all table) (tells p g.from)) (λ t i. lowest-le table (above_all table) (tells p g.from) t (g.below t i)) in
       omega arith)
 
-  ask_meets : (e : Arc) → AskArc p e → Meets full e
+  ask_meets : (e : Bound) → AskBound p e → Satisfies full e
   unfolding below
-  ask_meets e g = subst (Meets full) (sym g.is) (
+  ask_meets e g = subst (Satisfies full) (sym g.is) (
       let a = at_cell g.asked g.cell in
       let b = at_node g.to g.part in
       let low = table-low table g.asked in
@@ -106,20 +106,20 @@ module _ (p : CoreProgram) (table : List ℕ) (s : Stratifies p table) where
           let two = subst (λ (b : Bool). slice_index table g.asked + (if b then 1 else 0) ≤ slice_index table m.0.told) m.3 one in
           subst (λ (k : ℕ). slice_index table g.asked + (if g.negative then 1 else 0) ≤ slice_index table k) m.4 two
 
-  meets : (e : Arc) → Grounded p e → Meets full e
+  meets : (e : Bound) → Grounded p e → Satisfies full e
   meets e (inl g) = told_meets e g
   meets e (inr (inl g)) = down_meets e g
   meets e (inr (inr g)) = ask_meets e g
 
-  pub full-meets : IsWellFormed p → All (Meets full) (arcs p)
-  full-meets is = each_all (Meets full) (arcs p) (each-map (Grounded p) (Meets full) meets (arcs p) (arcs-grounded p is))
+  pub full-meets : IsWellFormed p → All (Satisfies full) (program_bounds p)
+  full-meets is = each_all (Satisfies full) (program_bounds p) (each-map (Grounded p) (Satisfies full) meets (program_bounds p) (bounds-grounded p is))
 
 -- ARCS LIE WITHIN
 
-within : (p : CoreProgram) (e : Arc) → Grounded p e → Within (length p.cells + length p.nodes) e
+within : (p : CoreProgram) (e : Bound) → Grounded p e → Within (length p.cells + length p.nodes) e
 within p e (inl g) = subst (Within (length p.cells + length p.nodes)) (sym g.is) (let a = g.node in let b = g.cell in (omega arith, omega arith))
 within p e (inr (inl g)) = subst (Within (length p.cells + length p.nodes)) (sym g.is) (let a = g.node in let b = g.part in (omega arith, omega arith))
 within p e (inr (inr g)) = subst (Within (length p.cells + length p.nodes)) (sym g.is) (let a = g.part in let b = g.cell in (omega arith, omega arith))
 
-pub arcs-within : (p : CoreProgram) → IsWellFormed p → All (Within (length p.cells + length p.nodes)) (arcs p)
-arcs-within p is = each_all (Within (length p.cells + length p.nodes)) (arcs p) (each-map (Grounded p) (Within (length p.cells + length p.nodes)) (within p) (arcs p) (arcs-grounded p is))
+pub bounds-within : (p : CoreProgram) → IsWellFormed p → All (Within (length p.cells + length p.nodes)) (program_bounds p)
+bounds-within p is = each_all (Within (length p.cells + length p.nodes)) (program_bounds p) (each-map (Grounded p) (Within (length p.cells + length p.nodes)) (within p) (program_bounds p) (bounds-grounded p is))

@@ -1,7 +1,7 @@
 pub mod Members
 pub mod Under
 pub mod Grounded
-pub mod EdgeArcs
+pub mod EdgeBounds
 pub mod Carried
 pub mod Reached
 pub mod Extended

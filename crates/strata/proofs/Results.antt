@@ -1,4 +1,4 @@
--- What the search for the first case and the table of the arcs say of a program.
+-- What the search for the first case and the table of the bounds say of a program.
 use Rattle.std.proofs.Common.{◌≡◌, inl, ℕ, ◌+◌, ◌<◌, Bool, true, false, List, ◌∷◌, Some, None, Vec, length, take, refl, sym, ap, ◌∙◌, subst, arith}
 use Rattle.std.specs.Prelude.{Option, All, slice_index, slice_index_or}
 use Rattle.std.specs.declared.alloc.Global.{Global}
@@ -9,22 +9,22 @@ use Rattle.agent_core.specs.Programs.{CoreProgram}
 use Rattle.agent_core.specs.WellFormed.{IsWellFormed}
 use Rattle.agent_core.specs.Strata.{Edge, edges, cases, In, Each, Stratifies, IsLeastTable, HasNoTable, IsFirstCase}
 use Rattle.agent_core.specs.Strata as strata
-use Rattle.order_tables.specs.declared.arc.Arc.{Arc}
-use Rattle.order_tables.specs.Arcs.{Meets, Within, HasTable, IsLeast}
+use Rattle.order_tables.specs.declared.bound.Bound.{Bound}
+use Rattle.order_tables.specs.Bounds.{Satisfies, Within, HasTable, IsLeast}
 use Rattle.order_tables.specs.Reaching.{AreReaching}
 use Rattle.order_tables.proofs.Lists.{all_by, any_default}
 use Rattle.order_tables.proofs.Spread.{true_false}
 use Rattle.order_tables.proofs.Tables.{IsBad}
 use Rattle.strata.specs.declared.search.Case.{Case}
 use Rattle.strata.specs.declared.fault.StrataFault.TheVariants.{NotStratified}
-use Rattle.strata.specs.Items.{arcs}
+use Rattle.strata.specs.Items.{program_bounds}
 use Rattle.strata.specs.Search.{first_that, reaches_back, edge_case, named}
 use Rattle.strata.specs.Answers.{NamesFirstCase, HasNoFirstCase}
 use Rattle.strata.proofs.Members.{in_left, in_right, in_each, each_in, map_in, contains_in}
-use Rattle.strata.proofs.EdgeArcs.{edge_arc, edge_arcs, from_chain, back-none, edges-inside, good-table, least-inside}
-use Rattle.strata.proofs.Carried.{arcs-meet_edges, edges-arcs}
-use Rattle.strata.proofs.Reached.{arcs-edges}
-use Rattle.strata.proofs.Extended.{full, full-meets, at_cell, arcs-within}
+use Rattle.strata.proofs.EdgeBounds.{edge_bound, edge_bounds, from_path, back-none, edges-inside, good-table, least-inside}
+use Rattle.strata.proofs.Carried.{bounds-meet_edges, edges-bounds}
+use Rattle.strata.proofs.Reached.{bounds-edges}
+use Rattle.strata.proofs.Extended.{full, full-meets, at_cell, bounds-within}
 use Rattle.strata.proofs.CaseEdges.{case-edge, edge-case}
 use Rattle.strata.proofs.Searches.{IsFirst, first-is, none-is}
 
@@ -32,26 +32,26 @@ sum_of : (p : CoreProgram) (cs : List CellDecl) (ns : List Node) → cs ≡ p.ce
 sum_of p cs ns ec en = ap (λ (xs : List CellDecl). length xs + length ns) ec ∙ ap (λ (xs : List Node). length p.cells + length xs) en
 
 -- what was found of lists that are the program's
-pub rows_are : (p : CoreProgram) (cs : List CellDecl) (ns : List Node) (list : List Arc) (rows same : List (Vec Bool Global)) → cs ≡ p.cells → ns ≡ p.nodes → list ≡ arcs p → same ≡ rows
-    → AreReaching list (length cs + length ns) (length cs) rows → AreReaching (arcs p) (length p.cells + length p.nodes) (length p.cells) same
+pub rows_are : (p : CoreProgram) (cs : List CellDecl) (ns : List Node) (list : List Bound) (rows same : List (Vec Bool Global)) → cs ≡ p.cells → ns ≡ p.nodes → list ≡ program_bounds p → same ≡ rows
+    → AreReaching list (length cs + length ns) (length cs) rows → AreReaching (program_bounds p) (length p.cells + length p.nodes) (length p.cells) same
 rows_are p cs ns list rows same ec en el er h =
-    subst (AreReaching (arcs p) (length p.cells + length p.nodes) (length p.cells)) (sym er) (subst (λ (n : ℕ). AreReaching (arcs p) (length p.cells + length p.nodes) n rows) (ap length ec)
-    (subst (λ (n : ℕ). AreReaching (arcs p) n (length cs) rows) (sum_of p cs ns ec en) (subst (λ (xs : List Arc). AreReaching xs (length cs + length ns) (length cs) rows) el h)))
+    subst (AreReaching (program_bounds p) (length p.cells + length p.nodes) (length p.cells)) (sym er) (subst (λ (n : ℕ). AreReaching (program_bounds p) (length p.cells + length p.nodes) n rows) (ap length ec)
+    (subst (λ (n : ℕ). AreReaching (program_bounds p) n (length cs) rows) (sum_of p cs ns ec en) (subst (λ (xs : List Bound). AreReaching xs (length cs + length ns) (length cs) rows) el h)))
 
-pub list-within : (p : CoreProgram) → IsWellFormed p → (cs : List CellDecl) (ns : List Node) (list : List Arc) → cs ≡ p.cells → ns ≡ p.nodes → list ≡ arcs p → All (Within (length cs + length ns)) list
+pub list-within : (p : CoreProgram) → IsWellFormed p → (cs : List CellDecl) (ns : List Node) (list : List Bound) → cs ≡ p.cells → ns ≡ p.nodes → list ≡ program_bounds p → All (Within (length cs + length ns)) list
 list-within p is cs ns list ec en el =
-    subst (λ (n : ℕ). All (Within n) list) (sym (sum_of p cs ns ec en)) (subst (λ (es : List Arc). All (Within (length p.cells + length p.nodes)) es) (sym el) (arcs-within p is))
+    subst (λ (n : ℕ). All (Within n) list) (sym (sum_of p cs ns ec en)) (subst (λ (es : List Bound). All (Within (length p.cells + length p.nodes)) es) (sym el) (bounds-within p is))
 
-module _ (p : CoreProgram) (is : IsWellFormed p) (rows : List (Vec Bool Global)) (are : AreReaching (arcs p) (length p.cells + length p.nodes) (length p.cells) rows) where
+module _ (p : CoreProgram) (is : IsWellFormed p) (rows : List (Vec Bool Global)) (are : AreReaching (program_bounds p) (length p.cells + length p.nodes) (length p.cells) rows) where
   abbrev test : Edge → Bool
   test e = reaches_back rows (edge_case e)
 
   -- by the rows, the told cell of an edge reaches the asked one exactly where it does by edges
   back : (e : Edge) → In e (edges p) → test e ≡ true → strata.Reaches (edges p) e.told e.guard.cell
-  back e i h = let w = in_each _ (edges p) e (edges-inside p is) i in arcs-edges p e.told is e.guard.cell w.1 w.0 ((are.each e.told e.guard.cell w.1).0 h)
+  back e i h = let w = in_each _ (edges p) e (edges-inside p is) i in bounds-edges p e.told is e.guard.cell w.1 w.0 ((are.each e.told e.guard.cell w.1).0 h)
 
   not_back : (e : Edge) → In e (edges p) → test e ≡ false → strata.Reaches (edges p) e.told e.guard.cell → ⊥
-  not_back e i h r = let w = in_each _ (edges p) e (edges-inside p is) i in true_false (sym ((are.each e.told e.guard.cell w.1).1 (edges-arcs p is.tree e.told e.guard.cell r)) ∙ h)
+  not_back e i h r = let w = in_each _ (edges p) e (edges-inside p is) i in true_false (sym ((are.each e.told e.guard.cell w.1).1 (edges-bounds p is.tree e.told e.guard.cell r)) ∙ h)
 
   -- WHERE ONE IS FOUND
 
@@ -96,19 +96,19 @@ module _ (p : CoreProgram) (is : IsWellFormed p) (rows : List (Vec Bool Global))
         let i : In e (cases p) = subst (In e) (sym f.stands) (in_right e f.before (e ∷ f.later) (inl refl)) in
         not_back e (case-edge p is e i).0 (in_each (λ (x : Edge). test x ≡ false) (cases p) e all_pass i) f.bad
 
-    none_bad : All (λ a. IsBad (edge_arcs p) a → ⊥) (edge_arcs p)
-    none_bad = all_by (λ a. IsBad (edge_arcs p) a → ⊥) (edge_arcs p) (λ a i bad.
-        let x = map_in edge_arc a (edges p) (contains_in a (edge_arcs p) i) in
-        let own = subst (IsBad (edge_arcs p)) x.2 bad in
+    none_bad : All (λ a. IsBad (edge_bounds p) a → ⊥) (edge_bounds p)
+    none_bad = all_by (λ a. IsBad (edge_bounds p) a → ⊥) (edge_bounds p) (λ a i bad.
+        let x = map_in edge_bound a (edges p) (contains_in a (edge_bounds p) i) in
+        let own = subst (IsBad (edge_bounds p)) x.2 bad in
         let case = edge-case p is x.0 x.1 own.0 in
-        not_back x.0 x.1 (in_each (λ (y : Edge). test y ≡ false) (cases p) x.0 all_pass case) (own.1.0, from_chain (edges p) own.1.0 x.0.told x.0.guard.cell own.1.1))
+        not_back x.0 x.1 (in_each (λ (y : Edge). test y ≡ false) (cases p) x.0 all_pass case) (own.1.0, from_path (edges p) own.1.0 x.0.told x.0.guard.cell own.1.1))
 
-    pub has_table : HasTable (arcs p)
+    pub has_table : HasTable (program_bounds p)
     has_table = let t = good-table p is none_bad in (full p t.0 t.1, full-meets p t.0 t.1 is)
 
 -- THE TABLE
 
-module _ (p : CoreProgram) (is : IsWellFormed p) (t : List ℕ) (long : length t ≡ length p.cells + length p.nodes) (meets : All (Meets t) (arcs p)) (least : IsLeast (arcs p) t) where
+module _ (p : CoreProgram) (is : IsWellFormed p) (t : List ℕ) (long : length t ≡ length p.cells + length p.nodes) (meets : All (Satisfies t) (program_bounds p)) (least : IsLeast (program_bounds p) t) where
   abbrev cells : ℕ
   cells = length p.cells
 
@@ -124,7 +124,7 @@ module _ (p : CoreProgram) (is : IsWellFormed p) (t : List ℕ) (long : length t
       let w = in_each _ (edges p) e (edges-inside p is) i in
       let a = front e.guard.cell w.0 in
       let b = front e.told w.1 in
-      let m : strata.Meets t e = in_each (strata.Meets t) (edges p) e (arcs-meet_edges p is.tree t meets) i in
+      let m : strata.Meets t e = in_each (strata.Meets t) (edges p) e (bounds-meet_edges p is.tree t meets) i in
       omega arith
 
   cut-stratifies : Stratifies p cut
@@ -146,12 +146,12 @@ module _ (p : CoreProgram) (is : IsWellFormed p) (t : List ℕ) (long : length t
       omega arith
 
 -- of lists that are the program's
-pub table-is : (p : CoreProgram) → IsWellFormed p → (cs : List CellDecl) (ns : List Node) (list : List Arc) (t found : List ℕ) → cs ≡ p.cells → ns ≡ p.nodes → list ≡ arcs p
-    → length t ≡ length cs + length ns → All (Meets t) list → IsLeast list t → found ≡ take (length cs) t
+pub table-is : (p : CoreProgram) → IsWellFormed p → (cs : List CellDecl) (ns : List Node) (list : List Bound) (t found : List ℕ) → cs ≡ p.cells → ns ≡ p.nodes → list ≡ program_bounds p
+    → length t ≡ length cs + length ns → All (Satisfies t) list → IsLeast list t → found ≡ take (length cs) t
     → Stratifies p found × IsLeastTable p found × All (λ n. n < 1024) found
 table-is p is cs ns list t found ec en el long meets least ef =
     let same : found ≡ take (length p.cells) t = ef ∙ ap (λ (xs : List CellDecl). take (length xs) t) ec in
     let whole = long ∙ sum_of p cs ns ec en in
-    let own : All (Meets t) (arcs p) = subst (λ (es : List Arc). All (Meets t) es) el meets in
-    let low : IsLeast (arcs p) t = subst (λ (es : List Arc). IsLeast es t) el least in
+    let own : All (Satisfies t) (program_bounds p) = subst (λ (es : List Bound). All (Satisfies t) es) el meets in
+    let low : IsLeast (program_bounds p) t = subst (λ (es : List Bound). IsLeast es t) el least in
     subst (λ (xs : List ℕ). Stratifies p xs × IsLeastTable p xs × All (λ n. n < 1024) xs) (sym same) (cut-stratifies p is t whole own low, cut-least p is t whole own low, cut-small p is t whole own low)

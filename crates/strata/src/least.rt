@@ -2,7 +2,7 @@ ghost use Rattle.std.specs.Prelude.{IfErr, IfOk};
 ghost use Rattle.agent_core.specs.Strata.{Stratifies, IsLeastTable};
 ghost use Rattle.strata.specs.Answers.{NamesFirstCase, SaysNoTable, HasNoFirstCase};
 
-use crate::arcs::arcs_of;
+use crate::bounds::bounds_of;
 use crate::fault::StrataFault;
 use crate::search::first_case;
 use agent_core::{Levels, Program};
@@ -21,8 +21,8 @@ pub fn strata(alloc: Global, program: &Program) -> Result<Levels, StrataFault>
 {
     let cells = program.cells().len();
     let size = (cells + program.nodes().len()) as u32;
-    let arcs = arcs_of(alloc, program)?;
-    let rows = reaching(alloc, size, &arcs, cells as u32)?;
+    let bounds = bounds_of(alloc, program)?;
+    let rows = reaching(alloc, size, &bounds, cells as u32)?;
     if let Some((node, case)) = first_case(&rows, program) {
         return Err(StrataFault::NotStratified {
             guard: case.guard,
@@ -30,7 +30,7 @@ pub fn strata(alloc: Global, program: &Program) -> Result<Levels, StrataFault>
             node,
         });
     }
-    let mut table = least_table(alloc, size, &arcs)?;
+    let mut table = least_table(alloc, size, &bounds)?;
     table.truncate(cells);
     Ok(Levels::make(table))
 }

@@ -1,7 +1,7 @@
 //! The least table of numbers that stratifies a program, or the first case for which there is none.
 #![tactic(auto)]
 
-mod arcs;
+mod bounds;
 mod fault;
 mod least;
 mod search;

@@ -180,3 +180,20 @@ fn else_over_a_later_tell_of_its_guard_has_a_table(rt: HostRuntime) -> Result<()
     assert_eq!(rt; table.list(), [0u32, 0, 0].as_slice());
     Ok(())
 }
+
+#[test]
+fn faults_name_the_cells_and_the_node(rt: HostRuntime) -> Result<(), Fail> {
+    let case = StrataFault::NotStratified {
+        guard: 0,
+        told: 1,
+        node: 3,
+    };
+    let wanted = "not stratified, cell 0 guards cell 1 at node 3";
+    assert_eq!(rt; format!(in rt.alloc(); "{case}")?.as_str(), wanted);
+    let memory = StrataFault::Memory;
+    assert_eq!(rt;
+        format!(in rt.alloc(); "{memory}")?.as_str(),
+        "out of memory"
+    );
+    Ok(())
+}

@@ -12,8 +12,8 @@ use Rattle.tdcc_tool.specs.Tasks.{HasNetLimit, IsGenerated, IsRun, ReadsTrace, i
 
 -- an instant may have as many leaves as a net may
 pub has_net_limit : (words : List (String Global)) (command : Command) → IsCommand command words → HasNetLimit (task_of command)
-has_net_limit words (Run limits) is = net_range is.more limits is.says
-has_net_limit words (Report limits) is = net_range is.more limits is.says
+has_net_limit words (Run limits) is = net_range is.more limits is.given
+has_net_limit words (Report limits) is = net_range is.more limits is.given
 has_net_limit words Check is = tt
 has_net_limit words Core is = tt
 has_net_limit words (Generate n) is = omega arith

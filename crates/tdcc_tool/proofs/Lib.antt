@@ -1,6 +1,7 @@
 pub mod AcceptedPrograms
 pub mod CaseAnswers
 pub mod Commands
+pub mod CoreReadBack
 pub mod Counting
 pub mod CourseSteps
 pub mod DeclaredLines

@@ -4,6 +4,7 @@
 mod answer;
 mod answering;
 mod checking;
+mod core_reading;
 mod course;
 mod end;
 mod generated;
@@ -20,5 +21,6 @@ mod tests;
 mod top;
 mod writing;
 
+pub use core_reading::core_law;
 pub use laws::{answer_law, output_law, workers_law};
 pub use top::tdcc;

@@ -20,6 +20,7 @@ use Rattle.agent_core.specs.Tellings.{tell_at, tell_all}
 use Rattle.agent_core.proofs.OneStore.{Below-antisym}
 use Rattle.token_system.proofs.Telling.{equal_names}
 use Rattle.agent_core.proofs.Tellings.{empty-IsStore, empty-Below, tell_all-least, tell_all-entails}
+use Rattle.trace_text.specs.Limits.{longest_trace_line}
 use Rattle.trace_text.specs.Fields.{fields}
 use Rattle.trace_text.specs.Inputs.{DenoteAll, GivesInput}
 use Rattle.trace_text.proofs.DeclaredTokens.{in_scope}
@@ -52,7 +53,7 @@ tell_all_declared p (pair ∷ ask) s fits only = tell_all_declared p ask (tell_a
     go (Some d) = subst (λ (n : CellName). DeclaredOnly (after_tell s n d.cell pair.1)) (sym (in_scope p pair fits.0)) (told_declared s pair.0 d.cell pair.1 only)
 
 -- what is after_tell to the store of which nothing is after_tell is the line's input
-pub told_input : (p : CoreProgram) (line : List ℕ) (tokens : Constraint) (i : StoreMap) → length line ≤ 32768 → DenoteAll p (fields line) tokens → i ≡ tell_all p [] tokens empty → GivesInput p line i
+pub told_input : (p : CoreProgram) (line : List ℕ) (tokens : Constraint) (i : StoreMap) → length line ≤ longest_trace_line → DenoteAll p (fields line) tokens → i ≡ tell_all p [] tokens empty → GivesInput p line i
 told_input p line tokens i short said after_tell =
     let fits = say_all_fit p (fields line) tokens said in
     let least = tell_all-least p [] tokens empty (empty-IsStore p) fits in

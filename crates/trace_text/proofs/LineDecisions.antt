@@ -14,6 +14,7 @@ use Rattle.agent_core.specs.declared.node.CellDecl.{CellDecl}
 use Rattle.agent_core.specs.Agents.{Constraint}
 use Rattle.agent_core.specs.Programs.{CoreProgram}
 use Rattle.agent_core.specs.Tellings.{tell_all}
+use Rattle.trace_text.specs.Limits.{longest_trace_line}
 use Rattle.trace_text.specs.declared.fault.LineFault.{LineFault}
 use Rattle.trace_text.specs.declared.fault.LineFault.TheVariants.{BadToken, UnknownName, WrongKind, LineTooLong, Memory}
 use Rattle.trace_text.specs.Fields.{Field, fields}
@@ -87,12 +88,12 @@ refuses_pieces : (p : CoreProgram) (all : List Field) (f : LineFault) → IsFirs
 refuses_pieces p all f r = first_refused p all r.before r.piece r.after r.tokens f r.parts r.accepted r.refused
 
 pub decide_line : (p : CoreProgram) (line : List ℕ) → IsRead p line
-decide_line p line = go (leb_tells (length line) 32768)
+decide_line p line = go (leb_tells (length line) longest_trace_line)
   where
-    within : length line ≤ 32768 → ArePiecesRead p (fields line) → IsRead p line
+    within : length line ≤ longest_trace_line → ArePiecesRead p (fields line) → IsRead p line
     within short (inl (tokens, said)) = inl (tell_all p [] tokens empty, told_input p line tokens (tell_all p [] tokens empty) short said refl)
     within short (inr (f, other, r)) = inr (f, other, line_refused p line f short (refuses_pieces p (fields line) f r))
 
-    go : ((nat_le (length line) 32768 ≡ true) × (length line ≤ 32768)) ⊎ ((nat_le (length line) 32768 ≡ false) × (32768 < length line)) → IsRead p line
+    go : ((nat_le (length line) longest_trace_line ≡ true) × (length line ≤ longest_trace_line)) ⊎ ((nat_le (length line) longest_trace_line ≡ false) × (longest_trace_line < length line)) → IsRead p line
     go (inl (t, short)) = within short (decide_pieces p (fields line))
     go (inr (t, long)) = inr (LineTooLong, (λ m. let wrong : LineTooLong ≡ Memory = m in cc), long)

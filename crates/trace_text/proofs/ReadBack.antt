@@ -24,7 +24,7 @@ use Rattle.agent_core.specs.Strata.{Each}
 use Rattle.agent_core.proofs.Bools.{both, first_of_both, second_of_both}
 use Rattle.agent_core.proofs.OneStore.{value_at-fits}
 use Rattle.trace_text.specs.Inputs.{declared_cell, GivesInput}
-use Rattle.trace_text.specs.Laws.{HasOwnNames, IsDeclaredPart}
+use Rattle.trace_text.specs.Laws.{HasOwnNames, IsInputPart}
 use Rattle.trace_text.specs.StoreLines.{cell_texts, store_line, value_texts}
 use Rattle.trace_text.specs.Writing.{spaced}
 use Rattle.trace_text.proofs.DeclaredTokens.{declared_name}
@@ -207,7 +207,7 @@ input_below p i u names input iu h (Local m births) d t named fits entailed = go
     go (Some v) e at_value = let own = input.declared (Local m births) v e in let same : Local m births ≡ Declared own.0 = own.1 in absurd (cc)
 
 -- the line of a store gives the part of it over the declared cells
-pub line_read : (p : CoreProgram) (v i : StoreMap) → IsWellFormed p → HasOwnNames p → IsDeclaredPart p v i → GivesInput p (store_line p v) i
+pub line_read : (p : CoreProgram) (v i : StoreMap) → IsWellFormed p → HasOwnNames p → IsInputPart p v i → GivesInput p (store_line p v) i
 line_read p v i program names part =
     let cells : List CellDecl = take p.declared p.cells in
     let line : store_line p v ≡ store_line p i = ap (join_with_byte 32) (cells_same p v i part.same 0 (take p.declared p.cells) (declared_cells p)) in

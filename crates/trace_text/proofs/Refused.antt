@@ -7,6 +7,7 @@ use Rattle.token_system.proofs.OneReading.{one_reading}
 use Rattle.agent_core.specs.declared.node.CellDecl.{CellDecl}
 use Rattle.agent_core.specs.Agents.{Constraint}
 use Rattle.agent_core.specs.Programs.{CoreProgram}
+use Rattle.trace_text.specs.Limits.{longest_trace_line}
 use Rattle.trace_text.specs.declared.fault.LineFault.{LineFault}
 use Rattle.trace_text.specs.declared.fault.LineFault.TheVariants.{BadToken, UnknownName, WrongKind, LineTooLong, Memory}
 use Rattle.trace_text.specs.Fields.{Field, fields}
@@ -73,17 +74,17 @@ one_fault p all f g a b x y =
     one_refusal p y.piece f g a b (subst (λ (z : Field). RefusesField p z f) same x.refused) y.refused
 
 -- what a fault that is neither of the line as a whole nor out of memory says of a line
-within : (p : CoreProgram) (line : List ℕ) (f : LineFault) → f ≢ Memory → RefusesLine p line f → length line ≤ 32768 → IsFirstRefused p (fields line) f
+within : (p : CoreProgram) (line : List ℕ) (f : LineFault) → f ≢ Memory → RefusesLine p line f → length line ≤ longest_trace_line → IsFirstRefused p (fields line) f
 within p line (BadToken o) other r short = r.1
 within p line (UnknownName o) other r short = r.1
 within p line (WrongKind o) other r short = r.1
 within p line LineTooLong other r short = absurd (omega arith)
 within p line Memory other r short = absurd (other refl)
 
-too_long : (p : CoreProgram) (line : List ℕ) (f : LineFault) → f ≢ Memory → RefusesLine p line f → 32768 < length line → f ≡ LineTooLong
-too_long p line (BadToken o) other r long = let short : length line ≤ 32768 = r.0 in absurd (omega arith)
-too_long p line (UnknownName o) other r long = let short : length line ≤ 32768 = r.0 in absurd (omega arith)
-too_long p line (WrongKind o) other r long = let short : length line ≤ 32768 = r.0 in absurd (omega arith)
+too_long : (p : CoreProgram) (line : List ℕ) (f : LineFault) → f ≢ Memory → RefusesLine p line f → longest_trace_line < length line → f ≡ LineTooLong
+too_long p line (BadToken o) other r long = let short : length line ≤ longest_trace_line = r.0 in absurd (omega arith)
+too_long p line (UnknownName o) other r long = let short : length line ≤ longest_trace_line = r.0 in absurd (omega arith)
+too_long p line (WrongKind o) other r long = let short : length line ≤ longest_trace_line = r.0 in absurd (omega arith)
 too_long p line LineTooLong other r long = refl
 too_long p line Memory other r long = absurd (other refl)
 
@@ -95,7 +96,7 @@ one_line_fault p line LineTooLong g a b r q = sym (too_long p line g b q r)
 one_line_fault p line Memory g a b r q = absurd (a refl)
 
 -- a line that gives an input is not refused
-pub given_not_refused : (p : CoreProgram) (line : List ℕ) (tokens : Constraint) (f : LineFault) → f ≢ Memory → length line ≤ 32768 → DenoteAll p (fields line) tokens → RefusesLine p line f → ⊥
+pub given_not_refused : (p : CoreProgram) (line : List ℕ) (tokens : Constraint) (f : LineFault) → f ≢ Memory → length line ≤ longest_trace_line → DenoteAll p (fields line) tokens → RefusesLine p line f → ⊥
 given_not_refused p line tokens f other short said r =
     let x = within p line f other r short in
     let own = say_all-middle p x.before x.piece x.after tokens (subst (λ (all : List Field). DenoteAll p all tokens) x.parts said) in
@@ -111,7 +112,7 @@ first_refused p all before x after tokens LineTooLong e said r = absurd r
 first_refused p all before x after tokens Memory e said r = tt
 
 -- a line within its limit that has a refused piece
-pub line_refused : (p : CoreProgram) (line : List ℕ) (f : LineFault) → length line ≤ 32768 → RefusesFields p (fields line) f → RefusesLine p line f
+pub line_refused : (p : CoreProgram) (line : List ℕ) (f : LineFault) → length line ≤ longest_trace_line → RefusesFields p (fields line) f → RefusesLine p line f
 line_refused p line (BadToken o) short r = (short, r)
 line_refused p line (UnknownName o) short r = (short, r)
 line_refused p line (WrongKind o) short r = (short, r)

@@ -13,6 +13,7 @@ use Rattle.agent_core.specs.Agents.{Constraint}
 use Rattle.agent_core.specs.Programs.{CoreProgram}
 use Rattle.agent_core.specs.Stores.{IsStore, IsInput, Below}
 use Rattle.agent_core.specs.Rests.{entails}
+use Rattle.trace_text.specs.Limits.{longest_trace_line}
 use Rattle.trace_text.specs.Fields.{Field, fields}
 
 -- the number of the declared cell of this name: the first one, where several have it
@@ -62,7 +63,7 @@ DenoteAll p (piece ∷ later) tokens = (first rest : Constraint) × Denotes p pi
 
 -- the line is within the limit of bytes and gives the input: the least store that entails the tokens of its fields
 pub record GivesInput (p : CoreProgram) (line : List ℕ) (i : StoreMap) : Type 0 where
-  pub short : length line ≤ 32768
+  pub short : length line ≤ longest_trace_line
   pub tokens : Constraint
   pub said : DenoteAll p (fields line) tokens
   pub input : IsInput p i

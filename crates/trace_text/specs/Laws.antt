@@ -29,7 +29,7 @@ pub record HasOwnNames (p : CoreProgram) : Type 0 where
   pub distinct : (m n : ℕ) (c d : CellDecl) → m < p.declared → n < p.declared → slice_get p.cells m ≡ Some c → slice_get p.cells n ≡ Some d → c.name ≡ d.name → m ≡ n
 
 -- the input is the part of the store that is over the declared cells
-pub record IsDeclaredPart (p : CoreProgram) (v i : StoreMap) : Type 0 where
+pub record IsInputPart (p : CoreProgram) (v i : StoreMap) : Type 0 where
   pub input : IsInput p i
   pub same : (n : ℕ) → n < p.declared → get v (Declared n) ≡ get i (Declared n)
 

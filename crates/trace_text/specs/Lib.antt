@@ -1,5 +1,6 @@
 pub mod Fields
 pub mod Inputs
+pub mod Limits
 pub mod Refusals
 pub mod Tellings
 pub mod StoreLines

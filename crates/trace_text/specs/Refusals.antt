@@ -5,6 +5,7 @@ use Rattle.token_system.specs.Texts.{IsTokenText}
 use Rattle.agent_core.specs.declared.node.CellDecl.{CellDecl}
 use Rattle.agent_core.specs.Agents.{Constraint}
 use Rattle.agent_core.specs.Programs.{CoreProgram}
+use Rattle.trace_text.specs.Limits.{longest_trace_line}
 use Rattle.trace_text.specs.declared.fault.LineFault.{LineFault}
 use Rattle.trace_text.specs.declared.fault.LineFault.TheVariants.{BadToken, UnknownName, WrongKind, LineTooLong, Memory}
 use Rattle.trace_text.specs.Fields.{Field, fields}
@@ -36,5 +37,5 @@ RefusesFields p all fault = IsFirstRefused p all fault
 
 -- The line has the fault: it is over the limit of bytes, or it is within it and its first refused piece has the fault. Out of memory says no more than that the line is within the limit.
 abbrev pub RefusesLine : CoreProgram → List ℕ → LineFault → Type 0
-RefusesLine p line LineTooLong = 32768 < length line
-RefusesLine p line fault = (length line ≤ 32768) × RefusesFields p (fields line) fault
+RefusesLine p line LineTooLong = longest_trace_line < length line
+RefusesLine p line fault = (length line ≤ longest_trace_line) × RefusesFields p (fields line) fault

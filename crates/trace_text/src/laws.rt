@@ -6,8 +6,11 @@ ghost use Rattle.agent_core.specs.Programs.{CoreProgram};
 ghost use Rattle.agent_core.specs.Stores.{IsInput};
 ghost use Rattle.trace_text.specs.Generated.{program_text, trace_lines};
 ghost use Rattle.trace_text.specs.Inputs.{GivesInput};
-ghost use Rattle.trace_text.specs.Laws.{HasOneReading, HasOwnNames, IsDeclaredPart, IsLine};
+ghost use Rattle.trace_text.specs.Laws.{HasOneReading, HasOwnNames, IsInputPart, IsLine};
+ghost use Rattle.trace_text.specs.Limits.{longest_trace_line};
 ghost use Rattle.trace_text.specs.StoreLines.{store_line};
+
+use crate::limits::LONGEST_TRACE_LINE;
 
 /// A line gives exactly one input or has exactly one fault, and not both, so that what `read_input`
 /// answers is the only answer, out of memory aside.
@@ -19,11 +22,16 @@ pub fn reading_law()
 /// is over the declared cells, and two stores over the declared cells have two lines.
 pub fn writing_law()
     ensures reads_back { (p : CoreProgram) (v i : StoreMap) → IsWellFormed p → HasOwnNames p
-        → IsDeclaredPart p v i → GivesInput p (store_line p v) i }
+        → IsInputPart p v i → GivesInput p (store_line p v) i }
     ensures two_lines { (p : CoreProgram) (v w : StoreMap) → IsWellFormed p → HasOwnNames p
         → IsInput p v → IsInput p w → store_line p v ≡ store_line p w → v ≡ w }
     ensures short { (p : CoreProgram) (v : StoreMap) → IsWellFormed p → HasOwnNames p → IsInput p v
         → length (store_line p v) ≤ 23039 }
+{}
+
+/// The limit of the code is the one that the definitions name.
+pub fn limits_law()
+    ensures { LONGEST_TRACE_LINE ≡ longest_trace_line }
 {}
 
 /// A generated program is one line, and the trace of a number has so many lines, of three signals

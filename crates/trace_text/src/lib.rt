@@ -6,6 +6,7 @@ mod draws;
 mod fault;
 mod generator;
 mod laws;
+mod limits;
 mod line;
 mod piece;
 mod store_line;
@@ -16,6 +17,7 @@ mod units;
 
 pub use fault::LineFault;
 pub use generator::generate;
-pub use laws::{generating_law, reading_law, writing_law};
+pub use laws::{generating_law, limits_law, reading_law, writing_law};
+pub use limits::LONGEST_TRACE_LINE;
 pub use line::read_input;
 pub use store_line::write_store;

@@ -1,19 +1,18 @@
 //! Reading a trace line.
 ghost use Rattle.std.specs.Prelude.{◌≡◌, ◌≤◌, length, IfErr, IfOk, OnOk};
 ghost use Rattle.std.specs.FinMap as map;
+ghost use Rattle.trace_text.specs.Limits.{longest_trace_line};
 ghost use Rattle.trace_text.specs.Fields.{is_blank as is_blank_byte, fields};
 ghost use Rattle.trace_text.specs.Inputs.{GivesInput};
 ghost use Rattle.trace_text.specs.Refusals.{RefusesLine, RefusesFields};
 ghost use Rattle.trace_text.specs.Tellings.{TellsPieces};
 
 use crate::fault::LineFault;
+use crate::limits::LONGEST_TRACE_LINE;
 use crate::piece::tell_field;
 use agent_core::Program;
 use std::alloc::Global;
 use token_system::Store;
-
-/// How many bytes a trace line has at most.
-const LONGEST: usize = 32_768;
 
 fn is_blank(byte: u8) -> bool
     ensures { result ≡ is_blank_byte byte }
@@ -23,7 +22,7 @@ fn is_blank(byte: u8) -> bool
 
 /// Tells the tokens of each piece of a line to a store of which nothing is told.
 fn tell_fields(program: &Program, line: &[u8], store: &mut Store) -> Result<(), LineFault>
-    requires short { length line.now ≤ 32768 }
+    requires short { length line.now ≤ longest_trace_line }
     requires nothing_told { store.old ≡ map.empty }
     ensures told { OnOk result (TellsPieces program.now (fields line.now) store.old store.new) }
     ensures refused { IfErr result (RefusesFields program.now (fields line.now)) }
@@ -40,12 +39,12 @@ fn tell_fields(program: &Program, line: &[u8], store: &mut Store) -> Result<(), 
 
 /// Reads a trace line: the least store over the declared cells that entails all its tokens. The
 /// line has no line feed at its end. Its first piece that is refused decides what is answered, and
-/// before that a line of more than 32,768 bytes is refused whole.
+/// before that a line of more than `LONGEST_TRACE_LINE` bytes is refused whole.
 pub fn read_input(alloc: Global, program: &Program, line: &[u8]) -> Result<Store, LineFault>
     ensures given { IfOk result (GivesInput program.now line.now) }
     ensures refused { IfErr result (RefusesLine program.now line.now) }
 {
-    if line.len() > LONGEST {
+    if line.len() > LONGEST_TRACE_LINE {
         return Err(LineFault::LineTooLong);
     }
     let mut input = Store::new(alloc);

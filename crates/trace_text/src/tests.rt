@@ -167,6 +167,27 @@ fn a_line_has_up_to_32768_bytes(rt: HostRuntime) -> Result<(), Fail> {
 }
 
 #[test]
+fn faults_say_what_is_refused_and_where(rt: HostRuntime) -> Result<(), Fail> {
+    let alloc = rt.alloc();
+    for (fault, wanted) in [
+        (LineFault::BadToken { offset: 2 }, "bad token at offset 2"),
+        (
+            LineFault::UnknownName { offset: 0 },
+            "unknown name at offset 0",
+        ),
+        (
+            LineFault::WrongKind { offset: 32_767 },
+            "wrong kind at offset 32767",
+        ),
+        (LineFault::LineTooLong, "line over 32768 bytes"),
+        (LineFault::Memory, "out of memory"),
+    ] {
+        assert_eq!(rt; format!(in alloc; "{fault}")?.as_str(), wanted);
+    }
+    Ok(())
+}
+
+#[test]
 fn numbers_of_the_widest_domain_and_of_one_number(rt: HostRuntime) -> Result<(), Fail> {
     let alloc = rt.alloc();
     let mut cells = Vec::new(alloc);

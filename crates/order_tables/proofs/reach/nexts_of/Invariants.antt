@@ -1,7 +1,7 @@
--- The items to which the arcs so far lead.
+-- The items to which the bounds so far lead.
 use Rattle.std.proofs.Common.{take}
 use Rattle.order_tables.specs.Reaching.{AreNexts}
 use Rattle.order_tables.proofs.reach.nexts_of.Given as goal
 
-abbrev pub invariant-loop-arc : goal.invariant-loop-arc
-invariant-loop-arc l = AreNexts l.size (take l.arc-index l.arcs) l.nexts.items
+abbrev pub invariant-loop-bound : goal.invariant-loop-bound
+invariant-loop-bound l = AreNexts l.size (take l.bound-index l.bounds) l.nexts.items

@@ -1,15 +1,15 @@
--- No number is greater than it has to be, and where none was raised each arc so far is met.
+-- No number is greater than it has to be, and where none was raised each bound so far is met.
 use Rattle.std.proofs.Common.{◌≡◌, ◌<◌, ℕ, true, false}
 use Rattle.std.specs.Prelude.{slice_index_or, sum}
-use Rattle.order_tables.specs.declared.arc.Arc.{Arc}
-use Rattle.order_tables.specs.Arcs.{Meets, IsLeast}
+use Rattle.order_tables.specs.declared.bound.Bound.{Bound}
+use Rattle.order_tables.specs.Bounds.{Satisfies, IsLeast}
 use Rattle.order_tables.proofs.table.pass.Given as goal
 
-abbrev pub invariant-loop-arc : goal.invariant-loop-arc
-invariant-loop-arc l =
+abbrev pub invariant-loop-bound : goal.invariant-loop-bound
+invariant-loop-bound l =
     record {
-      least : IsLeast l.arcs l.table;
+      least : IsLeast l.bounds l.table;
       kept : l.changed ≡ false → l.table ≡ l.fn.table;
-      met : l.changed ≡ false → (k : ℕ) (d : Arc) → k < l.arc-index → Meets l.table (slice_index_or l.arcs k d);
+      met : l.changed ≡ false → (k : ℕ) (d : Bound) → k < l.bound-index → Satisfies l.table (slice_index_or l.bounds k d);
       more : l.changed ≡ true → sum l.fn.table < sum l.table;
     }

@@ -1,8 +1,0 @@
-/// An arc from one item to another. It asks that the number of `high` be at least that of `low`,
-/// and greater where the arc is negative.
-#[derive(Clone, Copy, Debug)]
-pub struct Arc {
-    pub low: u32,
-    pub high: u32,
-    pub negative: bool,
-}

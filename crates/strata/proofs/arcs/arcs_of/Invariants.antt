@@ -1,6 +1,0 @@
-use Rattle.std.proofs.Common.{◌≡◌, ◌++◌, drop, length}
-use Rattle.strata.specs.Items.{arcs, arcs_from}
-use Rattle.strata.proofs.arcs.arcs_of.Given as goal
-
-abbrev pub invariant-loop-node : goal.invariant-loop-node
-invariant-loop-node l = record { counted : l.n ≡ l.node-index; so_far : l.list.items ++ arcs_from (length l.program.cells) l.node-index (drop l.node-index l.program.nodes) ≡ arcs l.program }

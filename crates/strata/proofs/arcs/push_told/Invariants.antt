@@ -1,6 +1,0 @@
-use Rattle.std.proofs.Common.{◌≡◌, ◌++◌, map, take, false}
-use Rattle.strata.specs.Items.{arc}
-use Rattle.strata.proofs.arcs.push_told.Given as goal
-
-abbrev pub invariant-loop-pair : goal.invariant-loop-pair
-invariant-loop-pair l = l.list.items ≡ l.fn.list.items ++ map (λ x. arc l.from x.0 false) (take l.pair-index l.pair-items)
