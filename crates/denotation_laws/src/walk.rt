@@ -10,7 +10,7 @@ use crate::asks::{has_all, tell_all};
 use crate::levels::is_upto;
 use agent_core::{Constraint, Levels, Node, Program};
 use std::alloc::Global;
-use token_system::{Memory, Store};
+use token_system::{Births, Memory, Store};
 
 /// What a walk goes by: the program, the numbers of its cells, the stratum up to which leaves tell, and the present
 /// instant.
@@ -73,9 +73,8 @@ impl Walk<'_> {
                 self.tell_now(*body, births, store)
             }
             Node::New { body, .. } => {
-                let mut inner = births.to_vec(self.alloc)?;
-                inner.push(self.instant)?;
-                self.tell_now(*body, &inner, store)
+                let inner = Births::extended(self.alloc, births, self.instant)?;
+                self.tell_now(*body, inner.list(), store)
             }
         }
     }
@@ -123,9 +122,9 @@ impl Walk<'_> {
                 self.tell_since(*body, births, closed, store)
             }
             Node::New { body, .. } => {
-                let mut inner = births.to_vec(self.alloc)?;
-                inner.push(self.instant - closed.len() as u32)?;
-                self.tell_since(*body, &inner, closed, store)
+                let start = self.instant - closed.len() as u32;
+                let inner = Births::extended(self.alloc, births, start)?;
+                self.tell_since(*body, inner.list(), closed, store)
             }
             Node::Hence { body } => self.tell_hence(*body, births, later, store),
             Node::Next { body } => self.tell_since(*body, births, later, store),
