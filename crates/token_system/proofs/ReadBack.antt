@@ -1,5 +1,5 @@
 -- The text of a token reads as that token.
-use Rattle.std.proofs.Common.{◌≡◌, ℕ, suc, ◌<◌, ◌^◌, Bool, true, false, cond, ◌&&◌, not, ℤ, pos, negsuc, neg_ℤ, List, [], ◌∷◌, ◌++◌, length, Some, None, refl, sym, ap, ◌∙◌, subst, arith}
+use Rattle.std.proofs.Common.{◌≡◌, ℕ, suc, ◌<◌, ◌^◌, Bool, true, false, cond, ◌&&◌, ℤ, pos, negsuc, neg_ℤ, List, [], ◌∷◌, ◌++◌, length, Some, None, refl, sym, ap, ◌∙◌, arith}
 use Rattle.std.specs.Prelude.{IsTrue, codes, nat_le, nat_eq, option_map}
 use Rattle.std.specs.List.{list_all}
 use mathlib.Core.List.{append_assoc}
@@ -11,10 +11,13 @@ use Rattle.std.proofs.lemmas.Bool.Decides.{nat_tests}
 use Rattle.std.proofs.lemmas.Int.{ints}
 use Rattle.token_system.specs.Domain.{is_bound}
 use Rattle.token_system.specs.declared.cell.Cell.{Cell}
-use Rattle.token_system.specs.Tokens.{Fits, is_signal}
+use Rattle.token_system.specs.Tokens.{Fits}
+use Rattle.token_system.specs.declared.cell.Kind.{Kind}
+use Rattle.token_system.proofs.ByKind.{Fitting, fitting}
+use Rattle.token_system.proofs.ByKind as by
 use Rattle.token_system.specs.declared.cell.Token.{Token}
-use Rattle.token_system.specs.declared.cell.Token.TheVariants.{On, Off, AtLeast, AtMost, Clash}
-use Rattle.token_system.specs.Texts.{text_of, is_name, is_digits, digits_number, number_of_text, written_of, alone, at_least, at_most, IsTokenText, off, clash, plain}
+use Rattle.token_system.specs.declared.cell.Token.TheVariants.{AtLeast, AtMost}
+use Rattle.token_system.specs.Texts.{text_of, is_name, is_digits, digits_number, number_of_text, written_of, alone, at_least, at_most, IsTail, IsTokenText, off, clash, plain}
 use Rattle.token_system.proofs.Alike.{true_false}
 use Rattle.token_system.proofs.Numerals.{own}
 
@@ -60,19 +63,18 @@ append_nil : (xs : List ℕ) → xs ++ [] ≡ xs
 append_nil [] = refl
 append_nil (x ∷ xs) = ap (λ (ys : List ℕ). x ∷ ys) (append_nil xs)
 
--- the text of a token whose bound may be told reads as that token
-pub reads_back : (name : List ℕ) (t : Token) → IsTrue (is_name name) → ((k : ℤ) → t ≡ AtLeast k → IsTrue (is_bound k)) → ((k : ℤ) → t ≡ AtMost k → IsTrue (is_bound k)) → IsTokenText (text_of name t) (written_of name t)
-reads_back name On h low high = plain (record { name = name; rest = []; parts = sym (append_nil name); is_a_name = h; tail = alone refl refl refl; start = refl; ends = refl })
-reads_back name Off h low high = off name refl h refl
-reads_back name Clash h low high = clash name refl h refl
-reads_back name (AtLeast k) h low high = plain (record { name = name; rest = codes ">=" ++ signed_decimal k; parts = append_assoc name (codes ">=") (signed_decimal k); is_a_name = h; tail = at_least (signed_decimal k) k refl (number-signed_decimal k (low k refl)) refl refl; start = refl; ends = refl })
-reads_back name (AtMost k) h low high = plain (record { name = name; rest = codes "<=" ++ signed_decimal k; parts = append_assoc name (codes "<=") (signed_decimal k); is_a_name = h; tail = at_most (signed_decimal k) k refl (number-signed_decimal k (high k refl)) refl refl; start = refl; ends = refl })
+-- what follows the name in the text of a token with a number
+numbered : (name relation : List ℕ) (k : ℤ) (t : Token) → IsTrue (is_name name) → IsTail (relation ++ signed_decimal k) t None
+    → IsTokenText (name ++ relation ++ signed_decimal k) (record { name_start = 0; name_end = length name; first = t; second = None })
+numbered name relation k t h tail = plain (record { name = name; rest = relation ++ signed_decimal k; parts = append_assoc name relation (signed_decimal k); is_a_name = h; tail = tail; start = refl; ends = refl })
+
+-- the text of a token that fits a kind reads as that token
+reads_back : (name : List ℕ) (k : Kind) (t : Token) → IsTrue (is_name name) → Fitting k t → IsTokenText (text_of name t) (written_of name t)
+reads_back name _ _ h by.on = plain (record { name = name; rest = []; parts = sym (append_nil name); is_a_name = h; tail = alone refl refl refl; start = refl; ends = refl })
+reads_back name _ _ h by.off = off name refl h refl
+reads_back name _ _ h (by.Fitting.clash _) = clash name refl h refl
+reads_back name _ _ h (by.at_least k f) = numbered name (codes ">=") k (AtLeast k) h (at_least (signed_decimal k) k refl (number-signed_decimal k f) refl refl)
+reads_back name _ _ h (by.at_most k f) = numbered name (codes "<=") k (AtMost k) h (at_most (signed_decimal k) k refl (number-signed_decimal k f) refl refl)
 
 pub fitting_reads_back : (c : Cell) (name : List ℕ) (t : Token) → Fits c t → IsTrue (is_name name) → IsTokenText (text_of name t) (written_of name t)
-fitting_reads_back c name t f h = reads_back name t h
-    (λ k e. bound (not (is_signal c.kind)) (is_bound k) (subst (λ (x : Token). Fits c x) e f))
-    (λ k e. bound (not (is_signal c.kind)) (is_bound k) (subst (λ (x : Token). Fits c x) e f))
-  where
-    bound : (p q : Bool) → IsTrue (p && q) → IsTrue q
-    bound true q h = h
-    bound false q h = absurd (true_false (sym h))
+fitting_reads_back c name t f h = reads_back name c.kind t h (fitting c.kind t f)

@@ -14,17 +14,13 @@ use Rattle.token_system.specs.StoreJoins.{CanJoin, KeepsAbove, IsStoreBelow, Are
 use Rattle.token_system.proofs.Adding.{bottom_covered, bottom_within}
 use Rattle.token_system.proofs.Below.{leq-is_below, below-antisymm, leq-refl, leq-antisymm, join-least, join-above_first, join-above_second}
 use Rattle.token_system.proofs.Both.{join-stands}
+use Rattle.token_system.proofs.Telling.{value_kept}
 
 bottom_value : (c : Cell) → IsValueOf c (bottom_of c)
 bottom_value c = let b = bottom_within c.kind c.lo c.hi c.lawful in record { domain = b.0; proper = b.1 }
 
 bottom_below : (c : Cell) (v : Value) → IsValueOf c v → IsBelow c (bottom_of c) v
 bottom_below c v h = bottom_covered c.kind c.lo c.hi v h.domain
-
--- what a store has for a name is a value of its cell
-value_kept : (c : Cell) (o : Option Value) → IfSome o (IsKeptFor c) → IsValueOf c (unwrap_or o (bottom_of c))
-value_kept c None h = bottom_value c
-value_kept c (Some v) h = h.value
 
 kept_at : (cell_of : CellName → Cell) (s : StoreMap) → AreKeptFor cell_of s → (n : CellName) → IfSome (get s n) (IsKeptFor (cell_of n))
 kept_at cell_of s h n = go (get s n) refl

@@ -11,7 +11,7 @@ use Rattle.token_system.specs.declared.cell.Cell.{Cell}
 use Rattle.token_system.specs.declared.cell.Token.{Token}
 use Rattle.token_system.specs.declared.cell.Value.{Value}
 use Rattle.token_system.specs.Tokens.{Fits}
-use Rattle.token_system.specs.Values.{bottom_of, value_with, value_eq, StandsFor, IsProper, WithinDomain}
+use Rattle.token_system.specs.Values.{bottom_of, value_with, value_eq, StandsFor, IsProper, IsValueOf, WithinDomain}
 use Rattle.token_system.specs.Names.{name_cmp, name_total, name_cmp-IsAntisymmetric}
 use Rattle.token_system.specs.Stores.{StoreMap, value_at, after_tell, IsKeptFor, CanHold}
 use Rattle.token_system.proofs.Alike.{true_false, Covers, same_tokens}
@@ -65,7 +65,12 @@ value_at-told s n c t f kept = go (value_eq (value_with (value_at s n c) t) (bot
     go true e = bottom_already (get s n) kept (value_eq-true _ _ e)
     go false e = ap (λ o. unwrap_or o (bottom_of c)) (get-insert_same s n (value_with (value_at s n c) t))
 
+-- what a store has for a name is a value of its cell
+pub value_kept : (c : Cell) (o : Option Value) → IfSome o (IsKeptFor c) → IsValueOf c (unwrap_or o (bottom_of c))
+value_kept c None h = let b = bottom_within c.kind c.lo c.hi c.lawful in record { domain = b.0; proper = b.1 }
+value_kept c (Some v) h = h.value
+
 -- so it stands for the tokens that it stood for and the new one
 pub told-stands : (s : StoreMap) (n : CellName) (c : Cell) (t : Token) → CanHold s n c t → IfSome (get s n) (IsKeptFor c)
     → (ts : List Token) → StandsFor c (value_at s n c) ts → StandsFor c (value_at (after_tell s n c t) n c) (ts ++ t ∷ [])
-told-stands s n c t can kept ts h = subst (λ (v : Value). StandsFor c v (ts ++ t ∷ [])) (sym (value_at-told s n c t can.fits kept)) (with-stands c ts (value_at s n c) t can.fits can.kind can.proper h)
+told-stands s n c t can kept ts h = subst (λ (v : Value). StandsFor c v (ts ++ t ∷ [])) (sym (value_at-told s n c t can.fits kept)) (with-stands c ts (value_at s n c) t can.fits (value_kept c (get s n) kept) h)

@@ -17,12 +17,7 @@ value_entails (values.Signal on off) On = on
 value_entails (values.Signal on off) Off = off
 value_entails (values.Number lo hi) (AtLeast k) = int_le k lo
 value_entails (values.Number lo hi) (AtMost k) = int_le hi k
-value_entails (values.Signal on off) (AtLeast k) = false
-value_entails (values.Signal on off) (AtMost k) = false
-value_entails (values.Signal on off) Clash = false
-value_entails (values.Number lo hi) On = false
-value_entails (values.Number lo hi) Off = false
-value_entails (values.Number lo hi) Clash = false
+value_entails _ _ = false
 
 -- the value stands for the tokens: it entails what they entail, of what fits the cell
 abbrev pub StandsFor : Cell → Value → List Token → Type 0
@@ -37,10 +32,9 @@ IsProper values.Clash = Unit {0}
 -- the value is of the kind, and its bounds lie within the domain
 abbrev pub WithinDomain : ℤ → ℤ → Kind → Value → Type 0
 WithinDomain least most kinds.Signal (values.Signal on off) = Unit {0}
-WithinDomain least most kinds.Signal (values.Number lo hi) = ⊥
-WithinDomain least most kinds.Number (values.Signal on off) = ⊥
 WithinDomain least most kinds.Number (values.Number lo hi) = (least ≤ℤ lo) × (hi ≤ℤ most)
 WithinDomain least most _ values.Clash = Unit {0}
+WithinDomain least most _ _ = ⊥
 
 -- the value is one of the cell's
 pub record IsValueOf (c : Cell) (v : Value) : Type 0 where
@@ -58,11 +52,13 @@ bottom_of c = bottom_for c.kind c.lo c.hi
 
 -- a value and a token are of one kind, where a clash is of each
 abbrev pub OfOneKind : Value → Token → Type 0
-OfOneKind (values.Signal on off) (AtLeast k) = ⊥
-OfOneKind (values.Signal on off) (AtMost k) = ⊥
-OfOneKind (values.Number lo hi) On = ⊥
-OfOneKind (values.Number lo hi) Off = ⊥
-OfOneKind _ _ = Unit {0}
+OfOneKind values.Clash t = Unit {0}
+OfOneKind v Clash = Unit {0}
+OfOneKind (values.Signal on off) On = Unit {0}
+OfOneKind (values.Signal on off) Off = Unit {0}
+OfOneKind (values.Number lo hi) (AtLeast k) = Unit {0}
+OfOneKind (values.Number lo hi) (AtMost k) = Unit {0}
+OfOneKind _ _ = ⊥
 
 -- the value with one token more
 abbrev pub value_with : Value → Token → Value
@@ -71,12 +67,7 @@ value_with (values.Signal on off) On = cond off values.Clash (values.Signal true
 value_with (values.Signal on off) Off = cond on values.Clash (values.Signal on true)
 value_with (values.Number lo hi) (AtLeast k) = cond (int_le k lo) (values.Number lo hi) (cond (int_lt hi k) values.Clash (values.Number k hi))
 value_with (values.Number lo hi) (AtMost k) = cond (int_le hi k) (values.Number lo hi) (cond (int_lt k lo) values.Clash (values.Number lo k))
-value_with (values.Signal on off) (AtLeast k) = values.Clash
-value_with (values.Signal on off) (AtMost k) = values.Clash
-value_with (values.Signal on off) Clash = values.Clash
-value_with (values.Number lo hi) On = values.Clash
-value_with (values.Number lo hi) Off = values.Clash
-value_with (values.Number lo hi) Clash = values.Clash
+value_with _ _ = values.Clash
 
 -- both are true, or both are false
 abbrev pub bool_eq : Bool → Bool → Bool
