@@ -21,7 +21,7 @@ use Rattle.agent_core.proofs.OneStore.{value_at-fits}
 pub can_hold : (p : CoreProgram) (u : StoreMap) (n : CellName) (d : CellDecl) (t : Token) → IsStore p u → Names p n d → Fits d.cell t → CanHold u n d.cell t
 can_hold p u n d t is named fits =
     let value = value_at-fits p u n d is named in
-    record { fits = fits; kind = kinds_agree d.cell.kind d.cell.lo d.cell.hi (value_at u n d.cell) t value.0 fits; proper = value.1 }
+    record { fits = fits; kind = kinds_agree d.cell.kind d.cell.lo d.cell.hi (value_at u n d.cell) t value.0 fits }
 
 -- where a cell's name and declaration were read
 module _ (p : CoreProgram) (b : List ℕ) (u : StoreMap) (cell : ℕ) (t : Token) (is : IsStore p u) (f : TokenFits p b (cell, t)) (n : CellName) (named : n ≡ name_of p b cell)

@@ -1,5 +1,5 @@
 -- Values: each stands for all tokens of a cell that some tokens entail. A value is what this project keeps in their place.
-use Rattle.std.specs.Prelude.{◌↔◌, ◌≤ℤ◌, Bool, true, false, ◌&&◌, not, cond, ℤ, List, IsTrue, int_le, int_lt}
+use Rattle.std.specs.Prelude.{◌↔◌, ◌≤ℤ◌, Bool, true, false, ◌&&◌, not, cond, ℤ, List, [], ◌∷◌, ◌++◌, IsTrue, int_le, int_lt}
 use Rattle.std.specs.Ordering.{int_eq}
 use Rattle.token_system.specs.declared.cell.Kind.{Kind}
 use Rattle.token_system.specs.declared.cell.Kind.TheVariants as kinds
@@ -68,6 +68,17 @@ value_with (values.Signal on off) Off = cond on values.Clash (values.Signal on t
 value_with (values.Number lo hi) (AtLeast k) = cond (int_le k lo) (values.Number lo hi) (cond (int_lt hi k) values.Clash (values.Number k hi))
 value_with (values.Number lo hi) (AtMost k) = cond (int_le hi k) (values.Number lo hi) (cond (int_lt k lo) values.Clash (values.Number lo k))
 value_with _ _ = values.Clash
+
+-- a token, if it is told
+abbrev pub token_where : Bool → Token → List Token
+token_where true t = t ∷ []
+token_where false t = []
+
+-- tokens that tell all that the value entails
+abbrev pub value_tokens : Value → List Token
+value_tokens values.Clash = Clash ∷ []
+value_tokens (values.Signal on off) = token_where on On ++ token_where off Off
+value_tokens (values.Number lo hi) = AtLeast lo ∷ AtMost hi ∷ []
 
 -- both are true, or both are false
 abbrev pub bool_eq : Bool → Bool → Bool
