@@ -34,7 +34,7 @@ module _ (c : Cell) where
       let a = added c.lo c.hi c.kind v t c.lawful h.value.domain h.value.proper f in
       record {
         value = record { domain = a.domain; proper = a.proper };
-        stands = with-stands c ts v t f (kinds_agree c.kind c.lo c.hi v t h.value.domain f) h.value.proper h.stands;
+        stands = with-stands c ts v t f h.value h.stands;
       }
 
   with_more : (rest done : List Token) (v : Value) → IsClosureOf c done v → Each (Fits c) rest → (w : Value) × IsClosureOf c (done ++ rest) w
