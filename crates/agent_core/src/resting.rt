@@ -28,8 +28,8 @@ fn holds(
     Ok(store.entails(&name, decl.cell, token))
 }
 
-/// Whether the store entails each token of the constraint.
-pub(crate) fn entails(
+/// Whether the store entails each token of the constraint, whose cells are named under these births.
+pub fn entails(
     alloc: Global,
     program: &Program,
     births: &[u32],

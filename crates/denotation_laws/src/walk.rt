@@ -6,9 +6,9 @@ ghost use Rattle.agent_core.specs.Scope.{ConstraintFits};
 ghost use Rattle.agent_core.specs.Stores.{IsStore};
 ghost use Rattle.denotation_laws.specs.Dues as dues;
 
-use crate::asks::{has_all, tell_all};
+use crate::asks::tell_all;
 use crate::levels::is_upto;
-use agent_core::{Constraint, Levels, Node, Program};
+use agent_core::{Constraint, Levels, Node, Program, entails};
 use std::alloc::Global;
 use token_system::{Births, Memory, Store};
 
@@ -33,7 +33,7 @@ impl Walk<'_> {
         if !is_upto(self.levels, self.stratum, ask) {
             return Ok(false);
         }
-        let has_told = has_all(self.alloc, self.program, births, &*store, ask)?;
+        let has_told = entails(self.alloc, self.program, births, &*store, ask)?;
         if has_told {
             return Ok(false);
         }
@@ -59,14 +59,14 @@ impl Walk<'_> {
                 self.tell_now(*right, births, store)
             }
             Node::Then { ask, body } => {
-                let runs = has_all(self.alloc, self.program, births, &*store, ask)?;
+                let runs = entails(self.alloc, self.program, births, &*store, ask)?;
                 if !runs {
                     return Ok(false);
                 }
                 self.tell_now(*body, births, store)
             }
             Node::Else { ask, body } => {
-                let refuted = has_all(self.alloc, self.program, births, &*store, ask)?;
+                let refuted = entails(self.alloc, self.program, births, &*store, ask)?;
                 if refuted {
                     return Ok(false);
                 }
@@ -108,14 +108,14 @@ impl Walk<'_> {
                 self.tell_since(*right, births, closed, store)
             }
             Node::Then { ask, body } => {
-                let runs = has_all(self.alloc, self.program, births, first, ask)?;
+                let runs = entails(self.alloc, self.program, births, first, ask)?;
                 if !runs {
                     return Ok(false);
                 }
                 self.tell_since(*body, births, closed, store)
             }
             Node::Else { ask, body } => {
-                let refuted = has_all(self.alloc, self.program, births, first, ask)?;
+                let refuted = entails(self.alloc, self.program, births, first, ask)?;
                 if refuted {
                     return Ok(false);
                 }
