@@ -6,6 +6,7 @@ ghost use Rattle.token_system.specs.declared.cell.Token.{Token};
 ghost use Rattle.token_system.specs.declared.reading.Written.{Written};
 
 use crate::cell::Token;
+use thiserror::Error;
 
 /// What a token's text says: where the name stands in it, and the token that it means. Only `x=3` means two.
 #[derive(Clone, Copy, Debug, PartialEq, Eq)]
@@ -17,7 +18,8 @@ pub struct Written {
 }
 
 /// The bytes are no token's text.
-#[derive(Clone, Copy, Debug, PartialEq, Eq)]
+#[derive(Clone, Copy, Debug, Error, PartialEq, Eq)]
+#[error("not the text of a token")]
 pub struct Bad;
 
 /// Reads the whole text of one token.
