@@ -1,19 +1,13 @@
 -- The test of a constraint, token by token.
 use Rattle.std.proofs.Common.{◌≡◌, ℕ, ◌+◌, ◌<◌, ◌≤◌, Bool, true, false, ◌&&◌, List, length, drop, get_or, sym, ap, ◌∙◌, subst}
-use Rattle.std.specs.Prelude.{Option, IsTrue, ℤ}
+use Rattle.std.specs.Prelude.{Option}
 use Rattle.std.proofs.lemmas.List.{drop_more, drop_all}
 use Rattle.std.proofs.lemmas.Option.{get_or_from_slice_get}
-use Rattle.token_system.specs.declared.cell.Kind.{Kind}
-use Rattle.token_system.specs.declared.cell.Kind.TheVariants as kinds
 use Rattle.token_system.specs.declared.cell.Token.{Token}
-use Rattle.token_system.specs.declared.cell.Token.TheVariants.{On, Off, AtLeast, AtMost, Clash}
-use Rattle.token_system.specs.declared.cell.Value.{Value}
-use Rattle.token_system.specs.declared.cell.Value.TheVariants as values
 use Rattle.token_system.specs.declared.name.CellName.{CellName}
-use Rattle.token_system.specs.Tokens.{Fits, fits_kind}
-use Rattle.token_system.specs.Values.{OfOneKind, WithinDomain}
+use Rattle.token_system.specs.Tokens.{Fits}
 use Rattle.token_system.specs.Stores.{StoreMap, value_at, store_entails, CanHold}
-use Rattle.token_system.proofs.Alike.{true_false}
+use Rattle.token_system.proofs.Adding.{kinds_agree}
 use Rattle.agent_core.specs.declared.node.CellDecl.{CellDecl}
 use Rattle.agent_core.specs.Programs.{CoreProgram}
 use Rattle.agent_core.specs.Agents.{Constraint}
@@ -23,27 +17,11 @@ use Rattle.agent_core.specs.Scope.{TokenFits, ConstraintFits}
 use Rattle.agent_core.specs.Rests.{holds_at, holds, entails}
 use Rattle.agent_core.proofs.OneStore.{value_at-fits}
 
--- a value of a cell and a token that fits it are of one kind
-one_kind : (k : Kind) (least most : ℤ) (v : Value) (t : Token) → WithinDomain least most k v → IsTrue (fits_kind k t) → OfOneKind v t
-one_kind k least most values.Clash t w f = tt
-one_kind kinds.Signal least most (values.Signal a b) On w f = tt
-one_kind kinds.Signal least most (values.Signal a b) Off w f = tt
-one_kind kinds.Signal least most (values.Signal a b) Clash w f = tt
-one_kind kinds.Signal least most (values.Signal a b) (AtLeast n) w f = absurd (true_false (sym f))
-one_kind kinds.Signal least most (values.Signal a b) (AtMost n) w f = absurd (true_false (sym f))
-one_kind kinds.Number least most (values.Number a b) (AtLeast n) w f = tt
-one_kind kinds.Number least most (values.Number a b) (AtMost n) w f = tt
-one_kind kinds.Number least most (values.Number a b) Clash w f = tt
-one_kind kinds.Number least most (values.Number a b) On w f = absurd (true_false (sym f))
-one_kind kinds.Number least most (values.Number a b) Off w f = absurd (true_false (sym f))
-one_kind kinds.Signal least most (values.Number a b) t w f = absurd w
-one_kind kinds.Number least most (values.Signal a b) t w f = absurd w
-
 -- a store of a program can hold each token that fits
 pub can_hold : (p : CoreProgram) (u : StoreMap) (n : CellName) (d : CellDecl) (t : Token) → IsStore p u → Names p n d → Fits d.cell t → CanHold u n d.cell t
 can_hold p u n d t is named fits =
     let value = value_at-fits p u n d is named in
-    record { fits = fits; kind = one_kind d.cell.kind d.cell.lo d.cell.hi (value_at u n d.cell) t value.0 fits; proper = value.1 }
+    record { fits = fits; kind = kinds_agree d.cell.kind d.cell.lo d.cell.hi (value_at u n d.cell) t value.0 fits }
 
 -- where a cell's name and declaration were read
 module _ (p : CoreProgram) (b : List ℕ) (u : StoreMap) (cell : ℕ) (t : Token) (is : IsStore p u) (f : TokenFits p b (cell, t)) (n : CellName) (named : n ≡ name_of p b cell)

@@ -1,18 +1,15 @@
 -- Stores of a program, each of which is below the other, are one store.
-use Rattle.std.proofs.Common.{◌≡◌, ℤ, Some, None, refl, sym, ap, ◌∙◌, subst, arith}
-use Rattle.std.specs.Prelude.{Option, IsTrue, unwrap_or}
+use Rattle.std.proofs.Common.{◌≡◌, Some, None, refl, sym, ap, ◌∙◌, subst}
+use Rattle.std.specs.Prelude.{Option, unwrap_or}
 use Rattle.std.specs.FinMap.{get, same_map}
-use Rattle.std.proofs.lemmas.Int.{ints}
-use Rattle.token_system.specs.declared.cell.Kind.{Kind}
-use Rattle.token_system.specs.declared.cell.Kind.TheVariants as kinds
 use Rattle.token_system.specs.declared.cell.Value.{Value}
 use Rattle.token_system.specs.declared.name.CellName.{CellName}
 use Rattle.token_system.specs.declared.name.CellName.TheVariants.{Declared, Local}
-use Rattle.token_system.specs.Domain.{is_cell}
-use Rattle.token_system.specs.Values.{IsProper, bottom_of, bottom_for, WithinDomain}
+use Rattle.token_system.specs.Values.{IsProper, bottom_of, WithinDomain}
 use Rattle.token_system.specs.Names.{name_total, name_cmp-IsAntisymmetric}
 use Rattle.token_system.specs.Stores.{StoreMap, value_at}
 use Rattle.token_system.proofs.Alike.{same_tokens}
+use Rattle.token_system.proofs.Adding.{bottom_within}
 use Rattle.agent_core.specs.declared.node.CellDecl.{CellDecl}
 use Rattle.agent_core.specs.Programs.{CoreProgram}
 use Rattle.agent_core.specs.Names.{Names}
@@ -24,17 +21,13 @@ Names-one p (Declared n) d e a b = let x = a.1 in let y = b.1 in cc
 Names-one p (Local m births) d e (cell, body, a, b, c) (cell', body', a', b', c') =
     let same : cell ≡ cell' = cc in cc
 
-pub bottom_fits : (k : Kind) (lo hi : ℤ) → IsTrue (is_cell k lo hi) → WithinDomain lo hi k (bottom_for k lo hi) × IsProper (bottom_for k lo hi)
-bottom_fits kinds.Signal lo hi c = (tt, refl)
-bottom_fits kinds.Number lo hi c = ((grind (arith, ints), grind (arith, ints)), grind (arith, ints))
-
 -- the value of a name is one of its cell
 pub value_at-fits : (p : CoreProgram) (s : StoreMap) (n : CellName) (d : CellDecl) → IsStore p s → Names p n d
     → WithinDomain d.cell.lo d.cell.hi d.cell.kind (value_at s n d.cell) × IsProper (value_at s n d.cell)
 value_at-fits p s n d is named = go (get s n) refl
   where
     go : (o : Option Value) → get s n ≡ o → WithinDomain d.cell.lo d.cell.hi d.cell.kind (unwrap_or o (bottom_of d.cell)) × IsProper (unwrap_or o (bottom_of d.cell))
-    go None e = bottom_fits d.cell.kind d.cell.lo d.cell.hi d.cell.lawful
+    go None e = bottom_within d.cell.kind d.cell.lo d.cell.hi d.cell.lawful
     go (Some v) e =
         let h = is n v e in
         let same : h.0 ≡ d = Names-one p n h.0 d h.1 named in

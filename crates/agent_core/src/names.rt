@@ -75,6 +75,6 @@ pub fn name_of(
     let own = &births[..depth_of(nodes, node) + 1];
     Ok(CellName::Local {
         node: node as u32,
-        births: Births::make(own.to_vec(alloc)?),
+        births: Births::from_slice(alloc, own)?,
     })
 }

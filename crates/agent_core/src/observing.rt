@@ -8,7 +8,7 @@ use crate::node::{Closure, Node};
 use crate::program::Program;
 use crate::resting::{entails, node_rests};
 use std::alloc::Global;
-use token_system::{Memory, Store};
+use token_system::{Births, Memory, Store};
 
 /// Whether the node rests now wherever a hence starts it: at the instant `start`, which is that of
 /// the first of the closed stores, at each later one, and now.
@@ -87,9 +87,8 @@ fn node_obs(
             node_obs(alloc, program, *body, births, start, closed, u, v)
         }
         Node::New { body, .. } => {
-            let mut inner = births.to_vec(alloc)?;
-            inner.push(start)?;
-            node_obs(alloc, program, *body, &inner, start, closed, u, v)
+            let inner = Births::extended(alloc, births, start)?;
+            node_obs(alloc, program, *body, inner.list(), start, closed, u, v)
         }
         Node::Hence { body } => hence_obs(alloc, program, *body, births, start + 1, later, u, v),
         Node::Next { body } => node_obs(alloc, program, *body, births, start + 1, later, u, v),

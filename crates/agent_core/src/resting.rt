@@ -8,7 +8,7 @@ use crate::names::name_of;
 use crate::node::{Closure, Constraint, Node};
 use crate::program::Program;
 use std::alloc::Global;
-use token_system::{Memory, Store, Token};
+use token_system::{Births, Memory, Store, Token};
 
 /// Whether the store entails the token of the cell with this number.
 fn holds(
@@ -28,8 +28,8 @@ fn holds(
     Ok(store.entails(&name, decl.cell, token))
 }
 
-/// Whether the store entails each token of the constraint.
-pub(crate) fn entails(
+/// Whether the store entails each token of the constraint, whose cells are named under these births.
+pub fn entails(
     alloc: Global,
     program: &Program,
     births: &[u32],
@@ -96,9 +96,8 @@ pub(crate) fn node_rests(
             node_rests(alloc, program, *body, births, t, u, v)
         }
         Node::New { body, .. } => {
-            let mut inner = births.to_vec(alloc)?;
-            inner.push(t)?;
-            node_rests(alloc, program, *body, &inner, t, u, v)
+            let inner = Births::extended(alloc, births, t)?;
+            node_rests(alloc, program, *body, inner.list(), t, u, v)
         }
     }
 }

@@ -1,4 +1,5 @@
 pub mod ClosedSets
+pub mod ClosedStores
 pub mod Tellings
 pub mod Steps
 pub mod NodeLeaves

@@ -1,6 +1,5 @@
-//! What a store entails of a constraint, and the store after the constraint is told.
-ghost use Rattle.std.specs.Prelude.{◌≡◌, IfOk, OnOk, slice_get};
-ghost use Rattle.agent_core.specs.Rests as specs;
+//! The store after a constraint is told.
+ghost use Rattle.std.specs.Prelude.{◌≡◌, OnOk, slice_get};
 ghost use Rattle.agent_core.specs.Scope.{TokenFits, ConstraintFits};
 ghost use Rattle.agent_core.specs.Stores.{IsStore};
 ghost use Rattle.agent_core.specs.Tellings as tellings;
@@ -8,45 +7,6 @@ ghost use Rattle.agent_core.specs.Tellings as tellings;
 use agent_core::{Constraint, Program, name_of};
 use std::alloc::Global;
 use token_system::{Memory, Store, Token};
-
-/// Whether the store entails the token of the cell with this number.
-fn has(
-    alloc: Global,
-    program: &Program,
-    births: &[u32],
-    store: &Store,
-    cell: u32,
-    token: Token,
-) -> Result<bool, Memory>
-    requires store { IsStore program.now store.now }
-    requires fits { TokenFits program.now births.now (record { 0 = cell; 1 = token }) }
-    ensures { IfOk result (λ b. b ≡ specs.holds program.now births.now store.now (record { 0 = cell; 1 = token })) }
-{
-    let name = name_of(alloc, program, births, cell)?;
-    let decl = &program.cells()[cell as usize];
-    Ok(store.entails(&name, decl.cell, token))
-}
-
-/// Whether the store entails each token of the constraint.
-pub(crate) fn has_all(
-    alloc: Global,
-    program: &Program,
-    births: &[u32],
-    store: &Store,
-    ask: &Constraint,
-) -> Result<bool, Memory>
-    requires store { IsStore program.now store.now }
-    requires fits { ConstraintFits program.now births.now ask.now }
-    ensures { IfOk result (λ b. b ≡ specs.entails program.now births.now store.now ask.now) }
-{
-    for (cell, token) in ask.list() {
-        let held = has(alloc, program, births, store, *cell, *token)?;
-        if !held {
-            return Ok(false);
-        }
-    }
-    Ok(true)
-}
 
 /// Tells the token of the cell with this number.
 fn tell(

@@ -8,9 +8,9 @@ mod levels;
 mod slow;
 mod walk;
 
-pub use laws::closed_sets_law;
+pub use laws::{closed_sets_law, closed_stores_law};
 pub use slow::slow_run;
-pub use token_system::{entailment_law, join_law, order_law};
+pub use token_system::{entailment_law, join_law, order_law, stores_law};
 
 #[cfg(test)]
 mod tests;

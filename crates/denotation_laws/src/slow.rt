@@ -1,11 +1,11 @@
 //! The outputs of a run, by walks over the whole history at each instant.
-ghost use Rattle.std.specs.Prelude.{◌≡◌, ◌+◌, ◌<◌, ◌≤◌, ◌^◌, ℕ, All, IfOk, OnOk, length};
+ghost use Rattle.std.specs.Prelude.{◌≡◌, ◌+◌, ◌<◌, ◌≤◌, ◌^◌, ℕ, List, All, IfOk, OnOk, length};
 ghost use Rattle.token_system.specs.Stores.{StoreMap};
 ghost use Rattle.agent_core.specs.WellFormed.{IsWellFormed};
 ghost use Rattle.agent_core.specs.Outputs.{IsOutput, IsRun};
 ghost use Rattle.agent_core.specs.Stores.{IsInput, IsStore};
 ghost use Rattle.agent_core.specs.Strata.{Stratifies};
-ghost use Rattle.agent_laws.specs.Ways.{IsOnWay};
+ghost use Rattle.agent_laws.specs.Ways.{AreBelow, IsOnWay};
 
 use crate::levels::strata_of;
 use crate::walk::tell_first;
@@ -40,21 +40,23 @@ fn complete_stratum(
     Ok(())
 }
 
-/// The output of the program on the input after these closed stores.
+/// The output of the program on the input after these closed stores, where the table has so many strata.
 fn output(
     alloc: Global,
     program: &Program,
     levels: &Levels,
+    strata: u32,
     closed: &[Store],
     input: &Store,
 ) -> Result<Store, Memory>
+    requires program { IsWellFormed program.now }
+    requires strata { AreBelow program.now levels.now strata }
     requires stratified { Stratifies program.now levels.now }
     requires closed { All (IsStore program.now) closed.now }
     requires few { length closed.now < 2 ^ 32 }
     requires input { IsStore program.now input.now }
     ensures { IfOk result (λ store. IsOutput program.now closed.now input.now store) }
 {
-    let strata = strata_of(program, levels);
     let mut store = input.copy()?;
     for stratum in 0..strata {
         complete_stratum(alloc, program, levels, stratum, closed, &mut store)?;
@@ -74,11 +76,14 @@ pub fn slow_run(
     requires stratified { Stratifies program.now levels.now }
     requires inputs { All (IsInput program.now) ins.now }
     requires few { length ins.now ≤ 65536 }
-    ensures { IfOk result (λ outs. IsRun program.now ins.now outs.items) }
+    ensures run { IfOk result (λ outs. IsRun program.now ins.now outs.items) }
+    ensures complete { IfOk result (λ outs. (others : List StoreMap)
+        → IsRun program.now ins.now others → others ≡ outs.items) }
 {
+    let strata = strata_of(program, levels);
     let mut outs = Vec::new(alloc);
     for input in ins {
-        let store = output(alloc, program, levels, &outs, input)?;
+        let store = output(alloc, program, levels, strata, &outs, input)?;
         outs.push(store)?;
     }
     Ok(outs)

@@ -6,11 +6,11 @@ ghost use Rattle.agent_core.specs.Scope.{ConstraintFits};
 ghost use Rattle.agent_core.specs.Stores.{IsStore};
 ghost use Rattle.denotation_laws.specs.Dues as dues;
 
-use crate::asks::{has_all, tell_all};
+use crate::asks::tell_all;
 use crate::levels::is_upto;
-use agent_core::{Constraint, Levels, Node, Program};
+use agent_core::{Constraint, Levels, Node, Program, entails};
 use std::alloc::Global;
-use token_system::{Memory, Store};
+use token_system::{Births, Memory, Store};
 
 /// What a walk goes by: the program, the numbers of its cells, the stratum up to which leaves tell, and the present
 /// instant.
@@ -33,7 +33,7 @@ impl Walk<'_> {
         if !is_upto(self.levels, self.stratum, ask) {
             return Ok(false);
         }
-        let has_told = has_all(self.alloc, self.program, births, &*store, ask)?;
+        let has_told = entails(self.alloc, self.program, births, &*store, ask)?;
         if has_told {
             return Ok(false);
         }
@@ -59,23 +59,22 @@ impl Walk<'_> {
                 self.tell_now(*right, births, store)
             }
             Node::Then { ask, body } => {
-                let runs = has_all(self.alloc, self.program, births, &*store, ask)?;
+                let runs = entails(self.alloc, self.program, births, &*store, ask)?;
                 if !runs {
                     return Ok(false);
                 }
                 self.tell_now(*body, births, store)
             }
             Node::Else { ask, body } => {
-                let refuted = has_all(self.alloc, self.program, births, &*store, ask)?;
+                let refuted = entails(self.alloc, self.program, births, &*store, ask)?;
                 if refuted {
                     return Ok(false);
                 }
                 self.tell_now(*body, births, store)
             }
             Node::New { body, .. } => {
-                let mut inner = births.to_vec(self.alloc)?;
-                inner.push(self.instant)?;
-                self.tell_now(*body, &inner, store)
+                let inner = Births::extended(self.alloc, births, self.instant)?;
+                self.tell_now(*body, inner.list(), store)
             }
         }
     }
@@ -109,23 +108,23 @@ impl Walk<'_> {
                 self.tell_since(*right, births, closed, store)
             }
             Node::Then { ask, body } => {
-                let runs = has_all(self.alloc, self.program, births, first, ask)?;
+                let runs = entails(self.alloc, self.program, births, first, ask)?;
                 if !runs {
                     return Ok(false);
                 }
                 self.tell_since(*body, births, closed, store)
             }
             Node::Else { ask, body } => {
-                let refuted = has_all(self.alloc, self.program, births, first, ask)?;
+                let refuted = entails(self.alloc, self.program, births, first, ask)?;
                 if refuted {
                     return Ok(false);
                 }
                 self.tell_since(*body, births, closed, store)
             }
             Node::New { body, .. } => {
-                let mut inner = births.to_vec(self.alloc)?;
-                inner.push(self.instant - closed.len() as u32)?;
-                self.tell_since(*body, &inner, closed, store)
+                let start = self.instant - closed.len() as u32;
+                let inner = Births::extended(self.alloc, births, start)?;
+                self.tell_since(*body, inner.list(), closed, store)
             }
             Node::Hence { body } => self.tell_hence(*body, births, later, store),
             Node::Next { body } => self.tell_since(*body, births, later, store),

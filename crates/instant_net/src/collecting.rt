@@ -21,7 +21,7 @@ use crate::parts::NetCell;
 use agent_core::{Closure, Constraint, Levels, Node, Program};
 use std::alloc::{AllocError, Global};
 use std::collections::BTreeSet;
-use token_system::{CellName, Kind, Memory};
+use token_system::{Births, CellName, Kind, Memory};
 
 /// What names are collected by: the program, its local cells, and the instant.
 #[derive(Clone, Copy)]
@@ -78,9 +78,8 @@ impl Collector<'_> {
                 self.add_node(*right, births, names)
             }
             Node::New { body, .. } => {
-                let mut inner = births.to_vec(self.alloc)?;
-                inner.push(self.t)?;
-                self.add_node(*body, &inner, names)
+                let inner = Births::extended(self.alloc, births, self.t)?;
+                self.add_node(*body, inner.list(), names)
             }
         }
     }

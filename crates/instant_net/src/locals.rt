@@ -25,7 +25,7 @@ impl Local {
         let own = &births[..self.births as usize];
         Ok(CellName::Local {
             node: self.node,
-            births: Births::make(own.to_vec(alloc)?),
+            births: Births::from_slice(alloc, own)?,
         })
     }
 }

@@ -79,7 +79,10 @@ fn compared(name: &CellName, node: u32, births: &[u32]) -> Ordering
         CellName::Local {
             node: own,
             births: under,
-        } => own.cmp(&node).then(under.list().cmp(births)),
+        } => match own.cmp(&node) {
+            Ordering::Equal => under.list().cmp(births),
+            order => order,
+        },
     }
 }
 
@@ -145,7 +148,7 @@ impl Walk<'_> {
     {
         Ok(Closure {
             node,
-            births: Births::make(births.to_vec(self.alloc)?),
+            births: Births::from_slice(self.alloc, births)?,
         })
     }
 
@@ -193,9 +196,8 @@ impl Walk<'_> {
                 self.add_node(*right, births, last, parts)
             }
             Node::New { body, .. } => {
-                let mut inner = births.to_vec(self.alloc)?;
-                inner.push(self.t)?;
-                self.add_node(*body, &inner, last, parts)
+                let inner = Births::extended(self.alloc, births, self.t)?;
+                self.add_node(*body, inner.list(), last, parts)
             }
         }
     }

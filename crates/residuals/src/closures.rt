@@ -10,9 +10,10 @@ use token_system::Memory;
 fn closure_order(a: &Closure, b: &Closure) -> Ordering
     ensures { result ≡ closure_cmp a.now b.now }
 {
-    a.node
-        .cmp(&b.node)
-        .then(a.births.list().cmp(b.births.list()))
+    match a.node.cmp(&b.node) {
+        Ordering::Equal => a.births.list().cmp(b.births.list()),
+        order => order,
+    }
 }
 
 /// An equal closure.

@@ -1,20 +1,21 @@
 -- The order of values: the test agrees with what they entail, it is an order, and the join is the least upper bound in it.
-use Rattle.std.proofs.Common.{◌≡◌, Bool, true, false, cond, ◌&&◌, ◌||◌, ℤ, refl, sym, ap, ◌∙◌, arith}
+use Rattle.std.proofs.Common.{◌≡◌, Bool, true, false, cond, ◌&&◌, ◌||◌, ℤ, refl, sym, ap, ◌∙◌, subst, arith}
 use Rattle.std.specs.Prelude.{◌↔◌, ◌≤ℤ◌, IsTrue, int_le, int_lt}
 use Rattle.std.specs.Int.{int_max, int_min}
 use Rattle.std.specs.Int.Signed.{≤ℤ_refl}
 use Rattle.std.proofs.lemmas.Int.{ints}
 use Rattle.token_system.specs.Domain.{is_cell}
 use Rattle.token_system.specs.declared.cell.Kind.{Kind}
-use Rattle.token_system.specs.declared.cell.Kind.TheVariants as kinds
 use Rattle.token_system.specs.declared.cell.Cell.{Cell}
 use Rattle.token_system.specs.declared.cell.Token.TheVariants.{On, Off, AtLeast, AtMost, Clash}
 use Rattle.token_system.specs.declared.cell.Value.{Value}
 use Rattle.token_system.specs.declared.cell.Value.TheVariants as values
-use Rattle.token_system.specs.Values.{IsProper, IsValueOf, WithinDomain}
+use Rattle.token_system.specs.Values.{IsProper, IsValueOf}
 use Rattle.token_system.specs.Joins.{IsBelow, implies, value_leq, value_join, signal_of, number_between}
-use Rattle.token_system.proofs.Alike.{Covers, true_false, within_bound, le_itself, same_tokens}
+use Rattle.token_system.proofs.Alike.{Covers, true_false, within_bound, le_itself, same_tokens, clash_alone}
 use Rattle.token_system.proofs.Adding.{signal_covers, number_covers, clash_covers}
+use Rattle.token_system.proofs.ByKind.{OfKind, of_kind}
+use Rattle.token_system.proofs.ByKind as by
 
 implied : (a b : Bool) → IsTrue (implies a b) → IsTrue a → IsTrue b
 implied true b h p = h
@@ -52,37 +53,47 @@ tighter a b c d h =
 from_tighter : (a b c d : ℤ) → a ≤ℤ c → d ≤ℤ b → IsTrue (value_leq (values.Number a b) (values.Number c d))
 from_tighter a b c d p q = both (int_le a c) (int_le d b) (grind (arith, ints)) (grind (arith, ints))
 
+-- what the test finds, case by case
+data Leq : Value → Value → Type 0 where
+  top : (x : Value) → Leq x values.Clash
+  signals : (a b c d : Bool) → IsTrue (implies a c) → IsTrue (implies b d) → Leq (values.Signal a b) (values.Signal c d)
+  numbers : (a b c d : ℤ) → a ≤ℤ c → d ≤ℤ b → Leq (values.Number a b) (values.Number c d)
+
+leq_case : (x y : Value) → IsTrue (value_leq x y) → Leq x y
+leq_case x values.Clash h = top x
+leq_case (values.Signal a b) (values.Signal c d) h = signals a b c d (first _ _ h) (second _ _ h)
+leq_case (values.Number a b) (values.Number c d) h = let t = tighter a b c d h in numbers a b c d t.0 t.1
+leq_case (values.Signal a b) (values.Number c d) h = absurd (true_false (sym h))
+leq_case (values.Number a b) (values.Signal c d) h = absurd (true_false (sym h))
+leq_case values.Clash (values.Signal c d) h = absurd (true_false (sym h))
+leq_case values.Clash (values.Number c d) h = absurd (true_false (sym h))
+
+case_leq : (x y : Value) → Leq x y → IsTrue (value_leq x y)
+case_leq x _ (top _) = refl
+case_leq _ _ (signals a b c d p q) = both _ _ p q
+case_leq _ _ (numbers a b c d p q) = from_tighter a b c d p q
+
 -- THE TEST AND WHAT IS ENTAILED
 
-leq-covers : (k : Kind) (lo hi : ℤ) (x y : Value) → IsTrue (value_leq x y) → WithinDomain lo hi k x → Covers k x y
-leq-covers k lo hi x values.Clash h d = clash_covers k x
-leq-covers kinds.Signal lo hi (values.Signal a b) (values.Signal c e) h d = signal_covers a b c e (implied a c (first _ _ h)) (implied b e (second _ _ h))
-leq-covers kinds.Number lo hi (values.Number a b) (values.Number c e) h d = let t = tighter a b c e h in number_covers a b c e t.0 t.1
-leq-covers kinds.Number lo hi (values.Signal a b) y h d = absurd d
-leq-covers kinds.Signal lo hi (values.Number a b) y h d = absurd d
-leq-covers k lo hi (values.Signal a b) (values.Number c e) h d = absurd (true_false (sym h))
-leq-covers k lo hi (values.Number a b) (values.Signal c e) h d = absurd (true_false (sym h))
-leq-covers k lo hi values.Clash (values.Signal c e) h d = absurd (true_false (sym h))
-leq-covers k lo hi values.Clash (values.Number c e) h d = absurd (true_false (sym h))
+covers_by : (k : Kind) (lo hi : ℤ) (x y : Value) → Leq x y → OfKind lo hi k x → Covers k x y
+covers_by k lo hi x _ (top _) d = clash_covers k x
+covers_by _ lo hi _ _ (signals a b c e p q) (by.signal _ _) = signal_covers a b c e (implied a c p) (implied b e q)
+covers_by _ lo hi _ _ (numbers a b c e p q) (by.number _ _ _ _) = number_covers a b c e p q
 
-covers-leq : (k : Kind) (lo hi : ℤ) (x y : Value) → IsTrue (is_cell k lo hi) → WithinDomain lo hi k x → IsProper x → WithinDomain lo hi k y → Covers k x y → IsTrue (value_leq x y)
-covers-leq k lo hi x values.Clash l dx px dy h = refl
-covers-leq kinds.Signal lo hi (values.Signal a b) (values.Signal c e) l dx px dy h = both _ _ (implying a c (h On refl)) (implying b e (h Off refl))
-covers-leq kinds.Number lo hi (values.Number a b) (values.Number c e) l dx px dy h =
-    let u = within_bound lo a hi b l dx.0 px dx.1 in
-    both _ _ (h (AtLeast a) u.0 (le_itself a)) (h (AtMost b) u.1 (le_itself b))
-covers-leq kinds.Number lo hi (values.Signal a b) y l dx px dy h = absurd dx
-covers-leq kinds.Signal lo hi (values.Number a b) y l dx px dy h = absurd dx
-covers-leq kinds.Signal lo hi x (values.Number c e) l dx px dy h = absurd dy
-covers-leq kinds.Number lo hi x (values.Signal c e) l dx px dy h = absurd dy
-covers-leq kinds.Signal lo hi values.Clash (values.Signal c e) l dx px dy h = absurd (true_false (sym (h Clash refl refl)))
-covers-leq kinds.Number lo hi values.Clash (values.Number c e) l dx px dy h = absurd (true_false (sym (h Clash refl refl)))
+leq_by : (k : Kind) (lo hi : ℤ) (x y : Value) → IsTrue (is_cell k lo hi) → OfKind lo hi k x → IsProper x → OfKind lo hi k y → Covers k x y → Leq x y
+leq_by _ lo hi x _ l d p (by.OfKind.clash k) h = top x
+leq_by _ lo hi _ y l (by.OfKind.clash k) p d h = subst (λ (z : Value). Leq values.Clash z) (sym (clash_alone y (h Clash refl refl))) (top values.Clash)
+leq_by _ lo hi _ _ l (by.signal a b) p (by.signal c e) h = signals a b c e (implying a c (h On refl)) (implying b e (h Off refl))
+leq_by _ lo hi _ _ l (by.number a b la bh) p (by.number c e _ _) h =
+    let u = within_bound lo a hi b l la p bh in
+    let t = tighter a b c e (both _ _ (h (AtLeast a) u.0 (le_itself a)) (h (AtMost b) u.1 (le_itself b))) in
+    numbers a b c e t.0 t.1
 
 -- the test says of values of a cell whether the second entails all that the first does
 pub leq-is_below : (x y : Value) (b : Bool) → b ≡ value_leq x y → (c : Cell) → IsValueOf c x → IsValueOf c y → (IsTrue b) ↔ (IsBelow c x y)
 leq-is_below x y b e c vx vy = (
-  λ h. leq-covers c.kind c.lo c.hi x y (sym e ∙ h) vx.domain,
-  λ h. e ∙ covers-leq c.kind c.lo c.hi x y c.lawful vx.domain vx.proper vy.domain h,
+  λ h. covers_by c.kind c.lo c.hi x y (leq_case x y (sym e ∙ h)) (of_kind c.lo c.hi c.kind x vx.domain),
+  λ h. e ∙ case_leq x y (leq_by c.kind c.lo c.hi x y c.lawful (of_kind c.lo c.hi c.kind x vx.domain) vx.proper (of_kind c.lo c.hi c.kind y vy.domain) h),
 )
 
 -- values of a cell that entail the same tokens are equal
@@ -100,22 +111,13 @@ leq-refl values.Clash = refl
 leq-refl (values.Signal a b) = both _ _ (bool_itself a) (bool_itself b)
 leq-refl (values.Number a b) = from_tighter a b a b (≤ℤ_refl a) (≤ℤ_refl b)
 
+trans_by : (x y z : Value) → Leq x y → Leq y z → Leq x z
+trans_by x y _ p (top _) = top x
+trans_by _ _ _ (signals a b c d p q) (signals _ _ e f r s) = signals a b e f (implying a e (λ h. implied c e r (implied a c p h))) (implying b f (λ h. implied d f s (implied b d q h)))
+trans_by _ _ _ (numbers a b c d p q) (numbers _ _ e f r s) = numbers a b e f (between a c e p r) (between f d b s q)
+
 pub leq-trans : (x y z : Value) → IsTrue (value_leq x y) → IsTrue (value_leq y z) → IsTrue (value_leq x z)
-leq-trans x y values.Clash p q = refl
-leq-trans x values.Clash (values.Signal e f) p q = absurd (true_false (sym q))
-leq-trans x values.Clash (values.Number e f) p q = absurd (true_false (sym q))
-leq-trans (values.Signal a b) (values.Signal c d) (values.Signal e f) p q =
-    both _ _ (implying a e (λ h. implied c e (first _ _ q) (implied a c (first _ _ p) h))) (implying b f (λ h. implied d f (second _ _ q) (implied b d (second _ _ p) h)))
-leq-trans (values.Number a b) (values.Number c d) (values.Number e f) p q =
-    let s = tighter a b c d p in
-    let t = tighter c d e f q in
-    from_tighter a b e f (between a c e s.0 t.0) (between f d b t.1 s.1)
-leq-trans values.Clash (values.Signal c d) z p q = absurd (true_false (sym p))
-leq-trans values.Clash (values.Number c d) z p q = absurd (true_false (sym p))
-leq-trans (values.Number a b) (values.Signal c d) z p q = absurd (true_false (sym p))
-leq-trans (values.Signal a b) (values.Number c d) z p q = absurd (true_false (sym p))
-leq-trans (values.Signal a b) (values.Signal c d) (values.Number e f) p q = absurd (true_false (sym q))
-leq-trans (values.Number a b) (values.Number c d) (values.Signal e f) p q = absurd (true_false (sym q))
+leq-trans x y z p q = case_leq x z (trans_by x y z (leq_case x y p) (leq_case y z q))
 
 same_both : (a b : Bool) → IsTrue (implies a b) → IsTrue (implies b a) → a ≡ b
 same_both true true p q = refl
@@ -123,22 +125,16 @@ same_both true false p q = sym p
 same_both false true p q = q
 same_both false false p q = refl
 
+top_alone : (x : Value) → Leq values.Clash x → x ≡ values.Clash
+top_alone _ (top _) = refl
+
+antisymm_by : (x y : Value) → Leq x y → IsTrue (value_leq y x) → x ≡ y
+antisymm_by x _ (top _) h = top_alone x (leq_case values.Clash x h)
+antisymm_by _ _ (signals a b c d p q) h = ap (λ e. values.Signal e b) (same_both a c p (first _ _ h)) ∙ ap (values.Signal c) (same_both b d q (second _ _ h))
+antisymm_by _ _ (numbers a b c d p q) h = let t = tighter c d a b h in ap (λ n. values.Number n b) (between_same a c p t.0) ∙ ap (values.Number c) (between_same b d t.1 q)
+
 pub leq-antisymm : (x y : Value) → IsTrue (value_leq x y) → IsTrue (value_leq y x) → x ≡ y
-leq-antisymm values.Clash values.Clash p q = refl
-leq-antisymm (values.Signal a b) (values.Signal c d) p q =
-    ap (λ e. values.Signal e b) (same_both a c (first _ _ p) (first _ _ q)) ∙ ap (values.Signal c) (same_both b d (second _ _ p) (second _ _ q))
-leq-antisymm (values.Number a b) (values.Number c d) p q =
-    let s = tighter a b c d p in
-    let t = tighter c d a b q in
-    let low : a ≡ c = between_same a c s.0 t.0 in
-    let high : b ≡ d = between_same b d t.1 s.1 in
-    ap (λ n. values.Number n b) low ∙ ap (values.Number c) high
-leq-antisymm (values.Signal a b) values.Clash p q = absurd (true_false (sym q))
-leq-antisymm (values.Number a b) values.Clash p q = absurd (true_false (sym q))
-leq-antisymm values.Clash (values.Signal c d) p q = absurd (true_false (sym p))
-leq-antisymm values.Clash (values.Number c d) p q = absurd (true_false (sym p))
-leq-antisymm (values.Number a b) (values.Signal c d) p q = absurd (true_false (sym p))
-leq-antisymm (values.Signal a b) (values.Number c d) p q = absurd (true_false (sym p))
+leq-antisymm x y p q = antisymm_by x y (leq_case x y p) q
 
 -- THE LEAST UPPER BOUND
 
@@ -173,30 +169,41 @@ min_second b d = grind (arith, ints)
 min_greatest : (b d f : ℤ) → f ≤ℤ b → f ≤ℤ d → f ≤ℤ int_min b d
 min_greatest b d f p q = grind (arith, ints)
 
--- what is above both parts of a signal, or of a number, is above the value that they make
-above_signal : (v : Value) (on off : Bool) → IsTrue (value_leq v (values.Signal on off)) → IsTrue (value_leq v (signal_of on off))
-above_signal v on off h = elim (on && off) as (λ b. IsTrue (value_leq v (cond b values.Clash (values.Signal on off)))) [ true ↦ refl | false ↦ h ]
+-- the join, case by case: of values that have none it is a clash
+data Join : Value → Value → Value → Type 0 where
+  of_signals : (a b c d : Bool) → Join (values.Signal a b) (values.Signal c d) (signal_of (a || c) (b || d))
+  of_numbers : (a b c d : ℤ) → Join (values.Number a b) (values.Number c d) (number_between (int_max a c) (int_min b d))
+  of_others : (x y : Value) → Join x y values.Clash
 
-above_number : (v : Value) (lo hi : ℤ) → IsTrue (value_leq v (values.Number lo hi)) → IsTrue (value_leq v (number_between lo hi))
-above_number v lo hi h = elim (int_lt hi lo) as (λ b. IsTrue (value_leq v (cond b values.Clash (values.Number lo hi)))) [ true ↦ refl | false ↦ h ]
+join_case : (x y : Value) → Join x y (value_join x y)
+join_case (values.Signal a b) (values.Signal c d) = of_signals a b c d
+join_case (values.Number a b) (values.Number c d) = of_numbers a b c d
+join_case (values.Signal a b) (values.Number c d) = of_others (values.Signal a b) (values.Number c d)
+join_case (values.Signal a b) values.Clash = of_others (values.Signal a b) values.Clash
+join_case (values.Number a b) (values.Signal c d) = of_others (values.Number a b) (values.Signal c d)
+join_case (values.Number a b) values.Clash = of_others (values.Number a b) values.Clash
+join_case values.Clash y = of_others values.Clash y
+
+-- what is below both parts of a value is below the value that they make, a clash among others
+above_made : (v w : Value) (b : Bool) → Leq v w → Leq v (cond b values.Clash w)
+above_made v w true h = top v
+above_made v w false h = h
+
+above_first : (x y z : Value) → Join x y z → Leq x z
+above_first _ _ _ (of_signals a b c d) = above_made (values.Signal a b) (values.Signal (a || c) (b || d)) ((a || c) && (b || d)) (signals a b (a || c) (b || d) (or_first a c) (or_first b d))
+above_first _ _ _ (of_numbers a b c d) = above_made (values.Number a b) (values.Number (int_max a c) (int_min b d)) (int_lt (int_min b d) (int_max a c)) (numbers a b (int_max a c) (int_min b d) (max_first a c) (min_first b d))
+above_first x _ _ (of_others _ _) = top x
+
+above_second : (x y z : Value) → Join x y z → Leq y z
+above_second _ _ _ (of_signals a b c d) = above_made (values.Signal c d) (values.Signal (a || c) (b || d)) ((a || c) && (b || d)) (signals c d (a || c) (b || d) (or_second a c) (or_second b d))
+above_second _ _ _ (of_numbers a b c d) = above_made (values.Number c d) (values.Number (int_max a c) (int_min b d)) (int_lt (int_min b d) (int_max a c)) (numbers c d (int_max a c) (int_min b d) (max_second a c) (min_second b d))
+above_second _ y _ (of_others _ _) = top y
 
 pub join-above_first : (x y : Value) → IsTrue (value_leq x (value_join x y))
-join-above_first (values.Signal a b) (values.Signal c d) = above_signal (values.Signal a b) (a || c) (b || d) (both _ _ (or_first a c) (or_first b d))
-join-above_first (values.Number a b) (values.Number c d) = above_number (values.Number a b) (int_max a c) (int_min b d) (from_tighter a b (int_max a c) (int_min b d) (max_first a c) (min_first b d))
-join-above_first (values.Signal a b) (values.Number c d) = refl
-join-above_first (values.Signal a b) values.Clash = refl
-join-above_first (values.Number a b) (values.Signal c d) = refl
-join-above_first (values.Number a b) values.Clash = refl
-join-above_first values.Clash y = refl
+join-above_first x y = case_leq x (value_join x y) (above_first x y (value_join x y) (join_case x y))
 
 pub join-above_second : (x y : Value) → IsTrue (value_leq y (value_join x y))
-join-above_second (values.Signal a b) (values.Signal c d) = above_signal (values.Signal c d) (a || c) (b || d) (both _ _ (or_second a c) (or_second b d))
-join-above_second (values.Number a b) (values.Number c d) = above_number (values.Number c d) (int_max a c) (int_min b d) (from_tighter c d (int_max a c) (int_min b d) (max_second a c) (min_second b d))
-join-above_second (values.Signal a b) (values.Number c d) = refl
-join-above_second (values.Signal a b) values.Clash = refl
-join-above_second (values.Number a b) (values.Signal c d) = refl
-join-above_second (values.Number a b) values.Clash = refl
-join-above_second values.Clash y = refl
+join-above_second x y = case_leq y (value_join x y) (above_second x y (value_join x y) (join_case x y))
 
 signal_below : (on off x y : Bool) → IsProper (values.Signal x y) → IsTrue (implies on x) → IsTrue (implies off y) → IsTrue (value_leq (signal_of on off) (values.Signal x y))
 signal_below true true true true p h k = absurd (true_false (sym p))
@@ -212,19 +219,10 @@ number_below lo hi x y p h k = go _ refl
     go true e = absurd (let lt = e in grind (arith, ints))
     go false e = from_tighter lo hi x y h k
 
+least_by : (x y z : Value) → IsProper z → Leq x z → Leq y z → IsTrue (value_leq (value_join x y) z)
+least_by x y _ p (top _) k = refl
+least_by _ _ _ p (signals a b _ _ h i) (signals c d e f k l) = signal_below (a || c) (b || d) e f p (or_least a c e h k) (or_least b d f i l)
+least_by _ _ _ p (numbers a b _ _ h i) (numbers c d e f k l) = number_below (int_max a c) (int_min b d) e f p (max_least a c e h k) (min_greatest b d f i l)
+
 pub join-least : (x y z : Value) → IsProper z → IsTrue (value_leq x z) → IsTrue (value_leq y z) → IsTrue (value_leq (value_join x y) z)
-join-least x y values.Clash p h k = refl
-join-least (values.Signal a b) (values.Signal c d) (values.Signal e f) p h k =
-    signal_below (a || c) (b || d) e f p (or_least a c e (first _ _ h) (first _ _ k)) (or_least b d f (second _ _ h) (second _ _ k))
-join-least (values.Number a b) (values.Number c d) (values.Number e f) p h k =
-    let s = tighter a b e f h in
-    let t = tighter c d e f k in
-    number_below (int_max a c) (int_min b d) e f p (max_least a c e s.0 t.0) (min_greatest b d f s.1 t.1)
-join-least values.Clash y (values.Signal e f) p h k = absurd (true_false (sym h))
-join-least values.Clash y (values.Number e f) p h k = absurd (true_false (sym h))
-join-least (values.Number a b) y (values.Signal e f) p h k = absurd (true_false (sym h))
-join-least (values.Signal a b) y (values.Number e f) p h k = absurd (true_false (sym h))
-join-least (values.Signal a b) values.Clash (values.Signal e f) p h k = absurd (true_false (sym k))
-join-least (values.Signal a b) (values.Number c d) (values.Signal e f) p h k = absurd (true_false (sym k))
-join-least (values.Number a b) values.Clash (values.Number e f) p h k = absurd (true_false (sym k))
-join-least (values.Number a b) (values.Signal c d) (values.Number e f) p h k = absurd (true_false (sym k))
+join-least x y z p h k = least_by x y z p (leq_case x z h) (leq_case y z k)

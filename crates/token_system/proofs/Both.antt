@@ -16,7 +16,7 @@ use Rattle.token_system.specs.Tokens.{IsLower, IsUpper, Clashes, AreOpposed}
 use Rattle.token_system.specs.Values.{StandsFor, IsValueOf}
 use Rattle.token_system.specs.Joins.{value_join, signal_of, number_between}
 use Rattle.token_system.proofs.Alike.{true_false}
-use Rattle.token_system.proofs.Sums.{cell_of, Bounds, Signs, SumsUp, sum-stands}
+use Rattle.token_system.proofs.Sums.{cell_of, Bounds, Signs, SumsUp, signs, bounds, clashes, sum-stands}
 use Rattle.token_system.proofs.Standing.{stands-sums_up}
 
 module _ (c : Cell) (ts us : List Token) where
@@ -101,11 +101,11 @@ module _ (lo hi : ℤ) (l : IsTrue (is_cell kinds.Number lo hi)) (ts us : List T
   number = cell_of kinds.Number lo hi l
 
   number_made : (a b : ℤ) → IsLower number (ts ++ us) a × ((j : ℤ) → IsLower number (ts ++ us) j → j ≤ℤ a) → IsUpper number (ts ++ us) b × ((k : ℤ) → IsUpper number (ts ++ us) k → b ≤ℤ k)
-      → (Contains (ts ++ us) Clash → ⊥) → (p : Bool) → int_lt b a ≡ p → SumsUp number kinds.Number (ts ++ us) (cond p values.Clash (values.Number a b))
-  number_made a b x y calm true e = inr (a, b, grind (arith, ints), x.0, y.0)
-  number_made a b x y calm false e = record { low = x.0; lowest = x.1; high = y.0; highest = y.1; calm = calm; proper = grind (arith, ints) }
+      → (Contains (ts ++ us) Clash → ⊥) → (p : Bool) → int_lt b a ≡ p → SumsUp number (ts ++ us) kinds.Number (cond p values.Clash (values.Number a b))
+  number_made a b x y calm true e = clashes kinds.Number (inr (a, b, grind (arith, ints), x.0, y.0))
+  number_made a b x y calm false e = bounds a b (record { low = x.0; lowest = x.1; high = y.0; highest = y.1; calm = calm; proper = grind (arith, ints) })
 
-  numbers_join : (a b c d : ℤ) → Bounds number ts a b → Bounds number us c d → SumsUp number kinds.Number (ts ++ us) (number_between (int_max a c) (int_min b d))
+  numbers_join : (a b c d : ℤ) → Bounds number ts a b → Bounds number us c d → SumsUp number (ts ++ us) kinds.Number (number_between (int_max a c) (int_min b d))
   numbers_join a b c d i j =
       number_made (int_max a c) (int_min b d) (greatest_lower number ts us a c i.lowest j.lowest i.low j.low) (least_upper number ts us b d i.highest j.highest i.high j.high)
       (told_in_either number ts us Clash ⊥ i.calm j.calm) _ refl
@@ -120,35 +120,30 @@ module _ (lo hi : ℤ) (l : IsTrue (is_cell kinds.Signal lo hi)) (ts us : List T
   signal = cell_of kinds.Signal lo hi l
 
   signal_made : (x y : Bool) → (IsTrue x → Contains (ts ++ us) On) → (Contains (ts ++ us) On → IsTrue x) → (IsTrue y → Contains (ts ++ us) Off) → (Contains (ts ++ us) Off → IsTrue y)
-      → (Contains (ts ++ us) Clash → ⊥) → (p : Bool) → (x && y) ≡ p → SumsUp signal kinds.Signal (ts ++ us) (cond p values.Clash (values.Signal x y))
-  signal_made x y f g h k calm true e = let w = both_true x y e in inr (f w.0, h w.1)
-  signal_made x y f g h k calm false e = record { on_told = f; told_on = g; off_told = h; told_off = k; calm = calm; proper = subst (λ (b : Bool). IsTrue (not b)) (sym e) refl }
+      → (Contains (ts ++ us) Clash → ⊥) → (p : Bool) → (x && y) ≡ p → SumsUp signal (ts ++ us) kinds.Signal (cond p values.Clash (values.Signal x y))
+  signal_made x y f g h k calm true e = let w = both_true x y e in clashes kinds.Signal (inr (f w.0, h w.1))
+  signal_made x y f g h k calm false e = signs x y (record { on_told = f; told_on = g; off_told = h; told_off = k; calm = calm; proper = subst (λ (b : Bool). IsTrue (not b)) (sym e) refl })
 
-  signals_join : (a b c d : Bool) → Signs ts a b → Signs us c d → SumsUp signal kinds.Signal (ts ++ us) (signal_of (a || c) (b || d))
+  signals_join : (a b c d : Bool) → Signs ts a b → Signs us c d → SumsUp signal (ts ++ us) kinds.Signal (signal_of (a || c) (b || d))
   signals_join a b c d i j =
       signal_made (a || c) (b || d) (either_told signal ts us On a c i.on_told j.on_told) (told_either signal ts us On a c i.told_on j.told_on)
       (either_told signal ts us Off b d i.off_told j.off_told) (told_either signal ts us Off b d i.told_off j.told_off) (told_in_either signal ts us Clash ⊥ i.calm j.calm) _ refl
 
-module _ (lo hi : ℤ) (ts us : List Token) where
-  join-sums_up : (k : Kind) (l : IsTrue (is_cell k lo hi)) (v w : Value) → SumsUp (cell_of k lo hi l) k ts v → SumsUp (cell_of k lo hi l) k us w → SumsUp (cell_of k lo hi l) k (ts ++ us) (value_join v w)
-  join-sums_up kinds.Number l (values.Number a b) (values.Number c d) i j = numbers_join lo hi l ts us a b c d i j
-  join-sums_up kinds.Signal l (values.Signal a b) (values.Signal c d) i j = signals_join lo hi l ts us a b c d i j
-  join-sums_up kinds.Number l values.Clash w i j = clashes_left (cell_of kinds.Number lo hi l) ts us i
-  join-sums_up kinds.Signal l values.Clash w i j = clashes_left (cell_of kinds.Signal lo hi l) ts us i
-  join-sums_up kinds.Number l (values.Number a b) values.Clash i j = clashes_right (cell_of kinds.Number lo hi l) ts us j
-  join-sums_up kinds.Signal l (values.Signal a b) values.Clash i j = clashes_right (cell_of kinds.Signal lo hi l) ts us j
-  join-sums_up kinds.Number l (values.Signal a b) w i j = absurd i
-  join-sums_up kinds.Signal l (values.Number a b) w i j = absurd i
-  join-sums_up kinds.Number l (values.Number a b) (values.Signal c d) i j = absurd j
-  join-sums_up kinds.Signal l (values.Signal a b) (values.Number c d) i j = absurd j
+join_clash : (v : Value) → value_join v values.Clash ≡ values.Clash
+join_clash values.Clash = refl
+join_clash (values.Signal a b) = refl
+join_clash (values.Number a b) = refl
+
+join-sums_up : (lo hi : ℤ) (ts us : List Token) (k : Kind) (l : IsTrue (is_cell k lo hi)) (v w : Value) → SumsUp (cell_of k lo hi l) ts k v → SumsUp (cell_of k lo hi l) us k w → SumsUp (cell_of k lo hi l) (ts ++ us) k (value_join v w)
+join-sums_up lo hi ts us _ l _ w (clashes k h) t = clashes k (clashes_left (cell_of k lo hi l) ts us h)
+join-sums_up lo hi ts us _ l v _ s (clashes k h) = subst (SumsUp (cell_of k lo hi l) (ts ++ us) k) (sym (join_clash v)) (clashes k (clashes_right (cell_of k lo hi l) ts us h))
+join-sums_up lo hi ts us _ l _ _ (signs a b s) (signs c d t) = signals_join lo hi l ts us a b c d s t
+join-sums_up lo hi ts us _ l _ _ (bounds a b s) (bounds c d t) = numbers_join lo hi l ts us a b c d s t
 
 -- the join of two values of a cell stands for the tokens of both
 pub join-stands : (c : Cell) (ts us : List Token) (v w : Value) → IsValueOf c v → IsValueOf c w → StandsFor c v ts → StandsFor c w us → StandsFor c (value_join v w) (ts ++ us)
 join-stands c ts us v w vv vw sv sw =
-    sum-stands c.lo c.hi c.kind c.lawful (ts ++ us) (value_join v w)
-    (join-sums_up c.lo c.hi ts us c.kind c.lawful v w
-    (stands-sums_up c.lo c.hi c.kind c.lawful ts v vv.domain vv.proper sv)
-    (stands-sums_up c.lo c.hi c.kind c.lawful us w vw.domain vw.proper sw))
+    sum-stands c.lo c.hi c.kind c.lawful (ts ++ us) (value_join v w) (join-sums_up c.lo c.hi ts us c.kind c.lawful v w (stands-sums_up c ts v vv sv) (stands-sums_up c us w vw sw))
 
 -- the same of a result that is known to be that join
 pub result_stands : (v w x : Value) → x ≡ value_join v w → (c : Cell) (ts us : List Token) → IsValueOf c v → IsValueOf c w → StandsFor c v ts → StandsFor c w us → StandsFor c x (ts ++ us)

@@ -12,8 +12,9 @@ use Rattle.token_system.specs.declared.cell.Token.{Token}
 use Rattle.token_system.specs.declared.cell.Token.TheVariants.{On, Off, AtLeast, AtMost, Clash}
 use Rattle.token_system.specs.Tokens.{Fits, fits_kind, IsLower, IsUpper, Clashes, TokensEntail, EntailsWithoutClash}
 use Rattle.token_system.specs.Rules.{IsDerived, by_itself, by_on_and_off, by_crossed_bounds, by_clash, by_greater_bound, by_smaller_bound, by_least, by_greatest}
-use Rattle.token_system.proofs.Alike.{true_false, within_bound}
+use Rattle.token_system.proofs.Alike.{within_bound}
 use Rattle.token_system.proofs.Sums.{cell_of}
+use Rattle.token_system.proofs.ByKind.{Fitting, on, off, at_least, at_most, clash, fitting}
 
 -- a token that the list contains is entailed, where it fits
 contained : (c : Cell) (ts : List Token) (t : Token) → Fits c t → Contains ts t → TokensEntail c ts t
@@ -41,29 +42,34 @@ module _ (lo hi : ℤ) (ts : List Token) where
   clash-derived kinds.Signal l (inr h) = by_on_and_off (by_itself On h.0) (by_itself Off h.1)
   clash-derived kinds.Number l (inr h) = by_crossed_bounds h.0 h.1 h.2 (lower-derived kinds.Number lo hi l ts refl h.0 h.3) (upper-derived kinds.Number lo hi l ts refl h.1 h.4)
 
+  fitting-derived : (k : Kind) (l : IsTrue (is_cell k lo hi)) (t : Token) → IsTrue (fits_kind k t) → Fitting k t → EntailsWithoutClash (cell_of k lo hi l) ts t → IsDerived (cell_of k lo hi l) ts t
+  fitting-derived _ l _ f on h = by_itself On h
+  fitting-derived _ l _ f off h = by_itself Off h
+  fitting-derived _ l _ f (at_least j g) h = by_greater_bound j h.0 f h.2 (lower-derived kinds.Number lo hi l ts refl h.0 h.1)
+  fitting-derived _ l _ f (at_most j g) h = by_smaller_bound j h.0 f h.2 (upper-derived kinds.Number lo hi l ts refl h.0 h.1)
+  fitting-derived _ l _ f (clash k) h = absurd h
+
   entailed-derived : (k : Kind) (l : IsTrue (is_cell k lo hi)) (t : Token) → IsTrue (fits_kind k t) → Clashes (cell_of k lo hi l) ts ⊎ EntailsWithoutClash (cell_of k lo hi l) ts t → IsDerived (cell_of k lo hi l) ts t
   entailed-derived k l t f (inl h) = by_clash t f (clash-derived k l h)
-  entailed-derived k l On f (inr h) = by_itself On h
-  entailed-derived k l Off f (inr h) = by_itself Off h
-  entailed-derived kinds.Number l (AtLeast j) f (inr h) = by_greater_bound j h.0 f h.2 (lower-derived kinds.Number lo hi l ts refl h.0 h.1)
-  entailed-derived kinds.Number l (AtMost j) f (inr h) = by_smaller_bound j h.0 f h.2 (upper-derived kinds.Number lo hi l ts refl h.0 h.1)
-  entailed-derived kinds.Signal l (AtLeast j) f (inr h) = absurd (true_false (sym f))
-  entailed-derived kinds.Signal l (AtMost j) f (inr h) = absurd (true_false (sym f))
-  entailed-derived k l Clash f (inr h) = absurd h
+  entailed-derived k l t f (inr h) = fitting-derived k l t f (fitting k t f) h
 
-  -- on and off together clash, of whichever kind the cell is
+  -- on and off together clash
   opposed_signs : (k : Kind) (l : IsTrue (is_cell k lo hi)) → TokensEntail (cell_of k lo hi l) ts On → TokensEntail (cell_of k lo hi l) ts Off → Clashes (cell_of k lo hi l) ts
   opposed_signs k l (f, inl h) y = h
   opposed_signs k l (f, inr x) (g, inl h) = h
-  opposed_signs kinds.Signal l (f, inr x) (g, inr y) = inr (x, y)
-  opposed_signs kinds.Number l (f, inr x) (g, inr y) = absurd (true_false (sym f))
+  opposed_signs k l (f, inr x) (g, inr y) = go k l (fitting k On f) x y
+    where
+      go : (k : Kind) (l : IsTrue (is_cell k lo hi)) → Fitting k On → Contains ts On → Contains ts Off → Clashes (cell_of k lo hi l) ts
+      go _ l on x y = inr (x, y)
 
-  -- a lower bound above an upper one clashes, of whichever kind the cell is
+  -- a lower bound above an upper one clashes
   opposed_bounds : (k : Kind) (l : IsTrue (is_cell k lo hi)) (i j : ℤ) → j <ℤ i → TokensEntail (cell_of k lo hi l) ts (AtLeast i) → TokensEntail (cell_of k lo hi l) ts (AtMost j) → Clashes (cell_of k lo hi l) ts
   opposed_bounds k l i j lt (f, inl h) y = h
   opposed_bounds k l i j lt (f, inr x) (g, inl h) = h
-  opposed_bounds kinds.Number l i j lt (f, inr x) (g, inr y) = let a = x.2 in let b = y.2 in inr (x.0, y.0, grind (arith, ints), x.1, y.1)
-  opposed_bounds kinds.Signal l i j lt (f, inr x) (g, inr y) = absurd (true_false (sym f))
+  opposed_bounds k l i j lt (f, inr x) (g, inr y) = go k l (fitting k (AtLeast i) f) x y
+    where
+      go : (k : Kind) (l : IsTrue (is_cell k lo hi)) → Fitting k (AtLeast i) → EntailsWithoutClash (cell_of k lo hi l) ts (AtLeast i) → EntailsWithoutClash (cell_of k lo hi l) ts (AtMost j) → Clashes (cell_of k lo hi l) ts
+      go _ l (at_least _ b) x y = let a = x.2 in let b = y.2 in inr (x.0, y.0, grind (arith, ints), x.1, y.1)
 
   clash_alone : (c : Cell) → TokensEntail c ts Clash → Clashes c ts
   clash_alone c (f, inl h) = h

@@ -9,15 +9,18 @@ use Rattle.std.proofs.lemmas.Bool.Decides.{nat_tests}
 use Rattle.std.proofs.lemmas.Int.{ints}
 use Rattle.token_system.specs.Domain.{is_bound}
 use Rattle.token_system.specs.declared.cell.Cell.{Cell}
-use Rattle.token_system.specs.Tokens.{Fits, is_signal}
+use Rattle.token_system.specs.Tokens.{Fits}
+use Rattle.token_system.specs.declared.cell.Kind.{Kind}
+use Rattle.token_system.proofs.ByKind.{Fitting, fitting}
+use Rattle.token_system.proofs.ByKind as by
 use Rattle.token_system.specs.declared.cell.Token.{Token}
-use Rattle.token_system.specs.declared.cell.Token.TheVariants.{On, Off, AtLeast, AtMost, Clash}
+use Rattle.token_system.specs.declared.cell.Token.TheVariants.{AtLeast, AtMost}
 use Rattle.names_and_numbers.specs.Limits.{most_digits}
 use Rattle.names_and_numbers.specs.Names.{is_digit, is_name}
 use Rattle.names_and_numbers.specs.Numbers.{are_digits, are_few_digits, digits_of, number_of, number_of_text}
 use Rattle.names_and_numbers.proofs.Bools.{and_left, both_true}
 use Rattle.names_and_numbers.proofs.Printed.{decimal_digits, no_minus, number_of-decimal, number_of-minus_decimal}
-use Rattle.token_system.specs.Texts.{text_of, written_of, alone, at_least, at_most, IsTokenText, off, clash, plain}
+use Rattle.token_system.specs.Texts.{text_of, written_of, alone, at_least, at_most, IsTail, IsTokenText, off, clash, plain}
 use Rattle.token_system.proofs.Alike.{true_false}
 
 few_decimal : (n : ℕ) → n < 10 ^ 9 → are_few_digits (decimal n) ≡ true
@@ -46,19 +49,18 @@ append_nil : (xs : List ℕ) → xs ++ [] ≡ xs
 append_nil [] = refl
 append_nil (x ∷ xs) = ap (λ (ys : List ℕ). x ∷ ys) (append_nil xs)
 
--- the text of a token whose bound may be told reads as that token
-pub reads_back : (name : List ℕ) (t : Token) → IsTrue (is_name name) → ((k : ℤ) → t ≡ AtLeast k → IsTrue (is_bound k)) → ((k : ℤ) → t ≡ AtMost k → IsTrue (is_bound k)) → IsTokenText (text_of name t) (written_of name t)
-reads_back name On h low high = plain (record { name = name; rest = []; parts = sym (append_nil name); is_a_name = h; tail = alone refl refl refl; start = refl; ends = refl })
-reads_back name Off h low high = off name refl h refl
-reads_back name Clash h low high = clash name refl h refl
-reads_back name (AtLeast k) h low high = plain (record { name = name; rest = codes ">=" ++ signed_decimal k; parts = append_assoc name (codes ">=") (signed_decimal k); is_a_name = h; tail = at_least (signed_decimal k) k refl (number-signed_decimal k (low k refl)) refl refl; start = refl; ends = refl })
-reads_back name (AtMost k) h low high = plain (record { name = name; rest = codes "<=" ++ signed_decimal k; parts = append_assoc name (codes "<=") (signed_decimal k); is_a_name = h; tail = at_most (signed_decimal k) k refl (number-signed_decimal k (high k refl)) refl refl; start = refl; ends = refl })
+-- what follows the name in the text of a token with a number
+numbered : (name relation : List ℕ) (k : ℤ) (t : Token) → IsTrue (is_name name) → IsTail (relation ++ signed_decimal k) t None
+    → IsTokenText (name ++ relation ++ signed_decimal k) (record { name_start = 0; name_end = length name; first = t; second = None })
+numbered name relation k t h tail = plain (record { name = name; rest = relation ++ signed_decimal k; parts = append_assoc name relation (signed_decimal k); is_a_name = h; tail = tail; start = refl; ends = refl })
+
+-- the text of a token that fits a kind reads as that token
+reads_back : (name : List ℕ) (k : Kind) (t : Token) → IsTrue (is_name name) → Fitting k t → IsTokenText (text_of name t) (written_of name t)
+reads_back name _ _ h by.on = plain (record { name = name; rest = []; parts = sym (append_nil name); is_a_name = h; tail = alone refl refl refl; start = refl; ends = refl })
+reads_back name _ _ h by.off = off name refl h refl
+reads_back name _ _ h (by.Fitting.clash _) = clash name refl h refl
+reads_back name _ _ h (by.at_least k f) = numbered name (codes ">=") k (AtLeast k) h (at_least (signed_decimal k) k refl (number-signed_decimal k f) refl refl)
+reads_back name _ _ h (by.at_most k f) = numbered name (codes "<=") k (AtMost k) h (at_most (signed_decimal k) k refl (number-signed_decimal k f) refl refl)
 
 pub fitting_reads_back : (c : Cell) (name : List ℕ) (t : Token) → Fits c t → IsTrue (is_name name) → IsTokenText (text_of name t) (written_of name t)
-fitting_reads_back c name t f h = reads_back name t h
-    (λ k e. bound (not (is_signal c.kind)) (is_bound k) (subst (λ (x : Token). Fits c x) e f))
-    (λ k e. bound (not (is_signal c.kind)) (is_bound k) (subst (λ (x : Token). Fits c x) e f))
-  where
-    bound : (p q : Bool) → IsTrue (p && q) → IsTrue q
-    bound true q h = h
-    bound false q h = absurd (true_false (sym h))
+fitting_reads_back c name t f h = reads_back name c.kind t h (fitting c.kind t f)

@@ -14,17 +14,13 @@ use Rattle.token_system.specs.StoreJoins.{CanJoin, KeepsAbove, IsStoreBelow, Are
 use Rattle.token_system.proofs.Adding.{bottom_covered, bottom_within}
 use Rattle.token_system.proofs.Below.{leq-is_below, below-antisymm, leq-refl, leq-antisymm, join-least, join-above_first, join-above_second}
 use Rattle.token_system.proofs.Both.{join-stands}
+use Rattle.token_system.proofs.Telling.{value_kept}
 
-bottom_value : (c : Cell) → IsValueOf c (bottom_of c)
+pub bottom_value : (c : Cell) → IsValueOf c (bottom_of c)
 bottom_value c = let b = bottom_within c.kind c.lo c.hi c.lawful in record { domain = b.0; proper = b.1 }
 
-bottom_below : (c : Cell) (v : Value) → IsValueOf c v → IsBelow c (bottom_of c) v
+pub bottom_below : (c : Cell) (v : Value) → IsValueOf c v → IsBelow c (bottom_of c) v
 bottom_below c v h = bottom_covered c.kind c.lo c.hi v h.domain
-
--- what a store has for a name is a value of its cell
-value_kept : (c : Cell) (o : Option Value) → IfSome o (IsKeptFor c) → IsValueOf c (unwrap_or o (bottom_of c))
-value_kept c None h = bottom_value c
-value_kept c (Some v) h = h.value
 
 kept_at : (cell_of : CellName → Cell) (s : StoreMap) → AreKeptFor cell_of s → (n : CellName) → IfSome (get s n) (IsKeptFor (cell_of n))
 kept_at cell_of s h n = go (get s n) refl
@@ -33,14 +29,14 @@ kept_at cell_of s h n = go (get s n) refl
     go None e = tt
     go (Some v) e = h n v e
 
-leq-below : (c : Cell) (v w : Value) → IsValueOf c v → IsValueOf c w → (IsTrue (value_leq v w)) ↔ (IsBelow c v w)
+pub leq-below : (c : Cell) (v w : Value) → IsValueOf c v → IsValueOf c w → (IsTrue (value_leq v w)) ↔ (IsBelow c v w)
 leq-below c v w hv hw = leq-is_below v w (value_leq v w) refl c hv hw
 
 module _ (cell_of : CellName → Cell) (r s : StoreMap) (hr : AreKeptFor cell_of r) (hs : AreKeptFor cell_of s) where
   value_of_s : (n : CellName) → IsValueOf (cell_of n) (value_at s n (cell_of n))
   value_of_s n = value_kept (cell_of n) (get s n) (kept_at cell_of s hs n)
 
-  below-entails : IsStoreBelow r s → EntailsAllOf cell_of r s
+  pub below-entails : IsStoreBelow r s → EntailsAllOf cell_of r s
   below-entails below n t f h = go (get r n) refl h
     where
       go : (o : Option Value) → get r n ≡ o → IsTrue (value_entails (unwrap_or o (bottom_of (cell_of n))) t) → IsTrue (store_entails s n (cell_of n) t)
@@ -51,7 +47,7 @@ module _ (cell_of : CellName → Cell) (r s : StoreMap) (hr : AreKeptFor cell_of
           subst (λ (w : Value). IsTrue (value_entails w t)) (sym held)
           ((leq-below (cell_of n) v above.0 (hr n v e).value (hs n above.0 above.1).value).0 above.2 t f h)
 
-  entails-below : EntailsAllOf cell_of r s → IsStoreBelow r s
+  pub entails-below : EntailsAllOf cell_of r s → IsStoreBelow r s
   entails-below all n v e = go (get s n) refl
     where
       of_v : IsBelow (cell_of n) v (value_at s n (cell_of n))

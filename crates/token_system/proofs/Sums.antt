@@ -14,6 +14,9 @@ use Rattle.token_system.specs.declared.cell.Value.TheVariants as values
 use Rattle.token_system.specs.Tokens.{Fits, fits_kind, IsLower, IsUpper, Clashes, AreOpposed, TokensEntail, EntailsWithoutClash}
 use Rattle.token_system.specs.Values.{StandsFor, value_with, value_entails, bottom_for}
 use Rattle.token_system.proofs.Alike.{true_false}
+use Rattle.token_system.proofs.Adding.{clash_added}
+use Rattle.token_system.proofs.ByKind.{Fitting, on, off, at_least, at_most, fitting}
+use Rattle.token_system.proofs.ByKind as by
 
 -- the cell of these fields
 abbrev pub cell_of : (k : Kind) (lo hi : ℤ) → IsTrue (is_cell k lo hi) → Cell
@@ -38,12 +41,10 @@ pub record Signs (ts : List Token) (on off : Bool) : Type 0 where
   pub proper : IsTrue (not (on && off))
 
 -- the value sums up the tokens of a cell of this kind
-abbrev pub SumsUp : Cell → Kind → List Token → Value → Type 0
-SumsUp c kinds.Number ts (values.Number a b) = Bounds c ts a b
-SumsUp c kinds.Number ts (values.Signal on off) = ⊥
-SumsUp c kinds.Signal ts (values.Signal on off) = Signs ts on off
-SumsUp c kinds.Signal ts (values.Number a b) = ⊥
-SumsUp c _ ts values.Clash = Clashes c ts
+pub data SumsUp (c : Cell) (ts : List Token) : Kind → Value → Type 0 where
+  signs : (a b : Bool) → Signs ts a b → SumsUp c ts kinds.Signal (values.Signal a b)
+  bounds : (a b : ℤ) → Bounds c ts a b → SumsUp c ts kinds.Number (values.Number a b)
+  clashes : (k : Kind) → Clashes c ts → SumsUp c ts k values.Clash
 
 pub none_told : (x : Token) → Contains [] x → ⊥
 none_told x h = let l = h.1 in omega arith
@@ -110,62 +111,48 @@ module _ (lo hi : ℤ) (l : IsTrue (is_cell kinds.Number lo hi)) where
 
   module _ (ts : List Token) (a b k : ℤ) (i : Bounds number ts a b) where
     with_lower : (p q : Bool) → int_le k a ≡ p → int_lt b k ≡ q
-        → SumsUp number kinds.Number (ts ++ AtLeast k ∷ []) (cond p (values.Number a b) (cond q values.Clash (values.Number k b)))
-    with_lower true q ep eq = record {
+        → SumsUp number (ts ++ AtLeast k ∷ []) kinds.Number (cond p (values.Number a b) (cond q values.Clash (values.Number k b)))
+    with_lower true q ep eq = bounds a b (record {
       low = still_lower number ts (AtLeast k) a i.low;
       lowest = λ j. lower_before number ts (AtLeast k) j (j ≤ℤ a) (i.lowest j) (λ e. let s : k ≡ j = cc in subst (λ (x : ℤ). x ≤ℤ a) s (grind (arith, ints)));
       high = still_upper number ts (AtLeast k) b i.high;
       highest = λ j. upper_before number ts (AtLeast k) j (b ≤ℤ j) (i.highest j) (λ e. absurd (cc));
       calm = told_before number ts (AtLeast k) Clash ⊥ i.calm (λ e. cc);
       proper = i.proper;
-    }
-    with_lower false true ep eq = inr (k, b, grind (arith, ints), inr (Contains-push ts (AtLeast k)), still_upper number ts (AtLeast k) b i.high)
-    with_lower false false ep eq = record {
+    })
+    with_lower false true ep eq = clashes kinds.Number (inr (k, b, grind (arith, ints), inr (Contains-push ts (AtLeast k)), still_upper number ts (AtLeast k) b i.high))
+    with_lower false false ep eq = bounds k b (record {
       low = inr (Contains-push ts (AtLeast k));
       lowest = λ j. lower_before number ts (AtLeast k) j (j ≤ℤ k) (λ h. let f = i.lowest j h in grind (arith, ints)) (λ e. let s : k ≡ j = cc in subst (λ (x : ℤ). x ≤ℤ k) s (grind (arith, ints)));
       high = still_upper number ts (AtLeast k) b i.high;
       highest = λ j. upper_before number ts (AtLeast k) j (b ≤ℤ j) (i.highest j) (λ e. absurd (cc));
       calm = told_before number ts (AtLeast k) Clash ⊥ i.calm (λ e. cc);
       proper = grind (arith, ints);
-    }
+    })
 
     with_upper : (p q : Bool) → int_le b k ≡ p → int_lt k a ≡ q
-        → SumsUp number kinds.Number (ts ++ AtMost k ∷ []) (cond p (values.Number a b) (cond q values.Clash (values.Number a k)))
-    with_upper true q ep eq = record {
+        → SumsUp number (ts ++ AtMost k ∷ []) kinds.Number (cond p (values.Number a b) (cond q values.Clash (values.Number a k)))
+    with_upper true q ep eq = bounds a b (record {
       low = still_lower number ts (AtMost k) a i.low;
       lowest = λ j. lower_before number ts (AtMost k) j (j ≤ℤ a) (i.lowest j) (λ e. absurd (cc));
       high = still_upper number ts (AtMost k) b i.high;
       highest = λ j. upper_before number ts (AtMost k) j (b ≤ℤ j) (i.highest j) (λ e. let s : k ≡ j = cc in subst (λ (x : ℤ). b ≤ℤ x) s (grind (arith, ints)));
       calm = told_before number ts (AtMost k) Clash ⊥ i.calm (λ e. cc);
       proper = i.proper;
-    }
-    with_upper false true ep eq = inr (a, k, grind (arith, ints), still_lower number ts (AtMost k) a i.low, inr (Contains-push ts (AtMost k)))
-    with_upper false false ep eq = record {
+    })
+    with_upper false true ep eq = clashes kinds.Number (inr (a, k, grind (arith, ints), still_lower number ts (AtMost k) a i.low, inr (Contains-push ts (AtMost k))))
+    with_upper false false ep eq = bounds a k (record {
       low = still_lower number ts (AtMost k) a i.low;
       lowest = λ j. lower_before number ts (AtMost k) j (j ≤ℤ a) (i.lowest j) (λ e. absurd (cc));
       high = inr (Contains-push ts (AtMost k));
       highest = λ j. upper_before number ts (AtMost k) j (k ≤ℤ j) (λ h. let f = i.highest j h in grind (arith, ints)) (λ e. let s : k ≡ j = cc in subst (λ (x : ℤ). k ≤ℤ x) s (grind (arith, ints)));
       calm = told_before number ts (AtMost k) Clash ⊥ i.calm (λ e. cc);
       proper = grind (arith, ints);
-    }
+    })
 
     no_clash : Clashes number ts → ⊥
     no_clash (inl h) = i.calm h
     no_clash (inr h) = let x = i.lowest h.0 h.3 in let y = i.highest h.1 h.4 in let p = i.proper in let q = h.2 in grind (arith, ints)
-
-    at_least_told : Fits number (AtLeast k) → (IsTrue (int_le k a)) ↔ (TokensEntail number ts (AtLeast k))
-    at_least_told f = (λ h. (f, inr (a, i.low, grind (arith, ints))), λ h. go h.1)
-      where
-        go : Clashes number ts ⊎ EntailsWithoutClash number ts (AtLeast k) → IsTrue (int_le k a)
-        go (inl h) = absurd (no_clash h)
-        go (inr h) = let x = i.lowest h.0 h.1 in let y = h.2 in grind (arith, ints)
-
-    at_most_told : Fits number (AtMost k) → (IsTrue (int_le b k)) ↔ (TokensEntail number ts (AtMost k))
-    at_most_told f = (λ h. (f, inr (b, i.high, grind (arith, ints))), λ h. go h.1)
-      where
-        go : Clashes number ts ⊎ EntailsWithoutClash number ts (AtMost k) → IsTrue (int_le b k)
-        go (inl h) = absurd (no_clash h)
-        go (inr h) = let x = i.highest h.0 h.1 in let y = h.2 in grind (arith, ints)
 
 -- SIGNALS
 
@@ -184,27 +171,27 @@ module _ (lo hi : ℤ) (l : IsTrue (is_cell kinds.Signal lo hi)) where
   }
 
   module _ (ts : List Token) where
-    with_on : (a b : Bool) → Signs ts a b → SumsUp signal kinds.Signal (ts ++ On ∷ []) (cond b values.Clash (values.Signal true b))
-    with_on a true i = inr (Contains-push ts On, still_told signal ts On Off (i.off_told refl))
-    with_on a false i = record {
+    with_on : (a b : Bool) → Signs ts a b → SumsUp signal (ts ++ On ∷ []) kinds.Signal (cond b values.Clash (values.Signal true b))
+    with_on a true i = clashes kinds.Signal (inr (Contains-push ts On, still_told signal ts On Off (i.off_told refl)))
+    with_on a false i = signs true false (record {
       on_told = λ h. Contains-push ts On;
       told_on = λ h. refl;
       off_told = λ h. absurd (true_false (sym h));
       told_off = told_before signal ts On Off (IsTrue false) i.told_off (λ e. absurd (cc));
       calm = told_before signal ts On Clash ⊥ i.calm (λ e. cc);
       proper = refl;
-    }
+    })
 
-    with_off : (a b : Bool) → Signs ts a b → SumsUp signal kinds.Signal (ts ++ Off ∷ []) (cond a values.Clash (values.Signal a true))
-    with_off true b i = inr (still_told signal ts Off On (i.on_told refl), Contains-push ts Off)
-    with_off false b i = record {
+    with_off : (a b : Bool) → Signs ts a b → SumsUp signal (ts ++ Off ∷ []) kinds.Signal (cond a values.Clash (values.Signal a true))
+    with_off true b i = clashes kinds.Signal (inr (still_told signal ts Off On (i.on_told refl), Contains-push ts Off))
+    with_off false b i = signs false true (record {
       on_told = λ h. absurd (true_false (sym h));
       told_on = told_before signal ts Off On (IsTrue false) i.told_on (λ e. absurd (cc));
       off_told = λ h. Contains-push ts Off;
       told_off = λ h. refl;
       calm = told_before signal ts Off Clash ⊥ i.calm (λ e. cc);
       proper = refl;
-    }
+    })
 
     no_signal_clash : (a b : Bool) → Signs ts a b → Clashes signal ts → ⊥
     no_signal_clash a b i (inl h) = i.calm h
@@ -215,61 +202,45 @@ module _ (lo hi : ℤ) (l : IsTrue (is_cell kinds.Signal lo hi)) where
         go true false p q r = true_false (sym q)
         go false b p q r = true_false (sym p)
 
-    sign_told : (a b : Bool) → Signs ts a b → (t : Token) → Fits signal t → (IsTrue (value_entails (values.Signal a b) t)) ↔ (TokensEntail signal ts t)
-    sign_told a b i (AtLeast k) f = absurd (true_false (sym f))
-    sign_told a b i (AtMost k) f = absurd (true_false (sym f))
-    sign_told a b i Clash f = (λ h. absurd (true_false (sym h)), λ h. go h.1)
-      where
-        go : Clashes signal ts ⊎ EntailsWithoutClash signal ts Clash → IsTrue false
-        go (inl h) = absurd (no_signal_clash a b i h)
-        go (inr h) = absurd h
-    sign_told a b i On f = (λ h. (f, inr (i.on_told h)), λ h. go h.1)
-      where
-        go : Clashes signal ts ⊎ EntailsWithoutClash signal ts On → IsTrue a
-        go (inl h) = absurd (no_signal_clash a b i h)
-        go (inr h) = i.told_on h
-    sign_told a b i Off f = (λ h. (f, inr (i.off_told h)), λ h. go h.1)
-      where
-        go : Clashes signal ts ⊎ EntailsWithoutClash signal ts Off → IsTrue b
-        go (inl h) = absurd (no_signal_clash a b i h)
-        go (inr h) = i.told_off h
+-- EACH KIND
 
--- BOTH KINDS
+-- what tokens entail that do not clash
+calm_entails : (c : Cell) (ts : List Token) (t : Token) (b : Bool) → Fits c t → (Clashes c ts → ⊥) → (IsTrue b → EntailsWithoutClash c ts t) → (EntailsWithoutClash c ts t → IsTrue b) → (IsTrue b) ↔ (TokensEntail c ts t)
+calm_entails c ts t b f none g h = (λ x. (f, inr (g x)), λ x. go x.1)
+  where
+    go : Clashes c ts ⊎ EntailsWithoutClash c ts t → IsTrue b
+    go (inl x) = absurd (none x)
+    go (inr x) = h x
+
+-- a value that is no clash does not entail one
+no_clash_entailed : (c : Cell) (ts : List Token) → Fits c Clash → (Clashes c ts → ⊥) → (IsTrue false) ↔ (TokensEntail c ts Clash)
+no_clash_entailed c ts f none = calm_entails c ts Clash false f none (λ h. absurd (true_false (sym h))) (λ h. absurd h)
 
 module _ (lo hi : ℤ) where
-  pub bottom-sums_up : (k : Kind) (l : IsTrue (is_cell k lo hi)) → SumsUp (cell_of k lo hi l) k [] (bottom_for k lo hi)
-  bottom-sums_up kinds.Signal l = signal_bottom lo hi l
-  bottom-sums_up kinds.Number l = number_bottom lo hi l
+  pub bottom-sums_up : (k : Kind) (l : IsTrue (is_cell k lo hi)) → SumsUp (cell_of k lo hi l) [] k (bottom_for k lo hi)
+  bottom-sums_up kinds.Signal l = signs false false (signal_bottom lo hi l)
+  bottom-sums_up kinds.Number l = bounds lo hi (number_bottom lo hi l)
 
-  pub with-sums_up : (k : Kind) (l : IsTrue (is_cell k lo hi)) (ts : List Token) (v : Value) (t : Token) → SumsUp (cell_of k lo hi l) k ts v → IsTrue (fits_kind k t) → SumsUp (cell_of k lo hi l) k (ts ++ t ∷ []) (value_with v t)
-  with-sums_up kinds.Number l ts values.Clash t i f = still_clashes (cell_of kinds.Number lo hi l) ts t i
-  with-sums_up kinds.Signal l ts values.Clash t i f = still_clashes (cell_of kinds.Signal lo hi l) ts t i
-  with-sums_up kinds.Number l ts (values.Signal on off) t i f = absurd i
-  with-sums_up kinds.Signal l ts (values.Number a b) t i f = absurd i
-  with-sums_up kinds.Number l ts (values.Number a b) On i f = absurd (true_false (sym f))
-  with-sums_up kinds.Number l ts (values.Number a b) Off i f = absurd (true_false (sym f))
-  with-sums_up kinds.Number l ts (values.Number a b) Clash i f = inl (Contains-push ts Clash)
-  with-sums_up kinds.Number l ts (values.Number a b) (AtLeast k) i f = with_lower lo hi l ts a b k i _ _ refl refl
-  with-sums_up kinds.Number l ts (values.Number a b) (AtMost k) i f = with_upper lo hi l ts a b k i _ _ refl refl
-  with-sums_up kinds.Signal l ts (values.Signal a b) On i f = with_on lo hi l ts a b i
-  with-sums_up kinds.Signal l ts (values.Signal a b) Off i f = with_off lo hi l ts a b i
-  with-sums_up kinds.Signal l ts (values.Signal a b) Clash i f = inl (Contains-push ts Clash)
-  with-sums_up kinds.Signal l ts (values.Signal a b) (AtLeast k) i f = absurd (true_false (sym f))
-  with-sums_up kinds.Signal l ts (values.Signal a b) (AtMost k) i f = absurd (true_false (sym f))
+  with_fitting : (k : Kind) (l : IsTrue (is_cell k lo hi)) (ts : List Token) (v : Value) (t : Token) → SumsUp (cell_of k lo hi l) ts k v → Fitting k t → SumsUp (cell_of k lo hi l) (ts ++ t ∷ []) k (value_with v t)
+  with_fitting _ l ts _ t (clashes k h) f = clashes k (still_clashes (cell_of k lo hi l) ts t h)
+  with_fitting _ l ts v _ s (by.Fitting.clash k) = subst (SumsUp (cell_of k lo hi l) (ts ++ Clash ∷ []) k) (sym (clash_added v)) (clashes k (inl (Contains-push ts Clash)))
+  with_fitting _ l ts _ _ (signs a b s) on = with_on lo hi l ts a b s
+  with_fitting _ l ts _ _ (signs a b s) off = with_off lo hi l ts a b s
+  with_fitting _ l ts _ _ (bounds a b s) (at_least k f) = with_lower lo hi l ts a b k s _ _ refl refl
+  with_fitting _ l ts _ _ (bounds a b s) (at_most k f) = with_upper lo hi l ts a b k s _ _ refl refl
+
+  pub with-sums_up : (k : Kind) (l : IsTrue (is_cell k lo hi)) (ts : List Token) (v : Value) (t : Token) → SumsUp (cell_of k lo hi l) ts k v → IsTrue (fits_kind k t) → SumsUp (cell_of k lo hi l) (ts ++ t ∷ []) k (value_with v t)
+  with-sums_up k l ts v t s f = with_fitting k l ts v t s (fitting k t f)
+
+  stands_by : (k : Kind) (l : IsTrue (is_cell k lo hi)) (ts : List Token) (v : Value) → SumsUp (cell_of k lo hi l) ts k v → (t : Token) → IsTrue (fits_kind k t) → Fitting k t → (IsTrue (value_entails v t)) ↔ (TokensEntail (cell_of k lo hi l) ts t)
+  stands_by _ l ts _ (clashes k h) t f g = (λ x. (f, inl h), λ x. refl)
+  stands_by _ l ts _ (signs a b s) _ f on = calm_entails (signal lo hi l) ts On a f (no_signal_clash lo hi l ts a b s) s.on_told s.told_on
+  stands_by _ l ts _ (signs a b s) _ f off = calm_entails (signal lo hi l) ts Off b f (no_signal_clash lo hi l ts a b s) s.off_told s.told_off
+  stands_by _ l ts _ (signs a b s) _ f (by.Fitting.clash _) = no_clash_entailed (signal lo hi l) ts f (no_signal_clash lo hi l ts a b s)
+  stands_by _ l ts _ (bounds a b s) _ f (at_least k g) = calm_entails (number lo hi l) ts (AtLeast k) (int_le k a) f (no_clash lo hi l ts a b k s) (λ h. (a, s.low, grind (arith, ints))) (λ h. let x = s.lowest h.0 h.1 in let y = h.2 in grind (arith, ints))
+  stands_by _ l ts _ (bounds a b s) _ f (at_most k g) = calm_entails (number lo hi l) ts (AtMost k) (int_le b k) f (no_clash lo hi l ts a b k s) (λ h. (b, s.high, grind (arith, ints))) (λ h. let x = s.highest h.0 h.1 in let y = h.2 in grind (arith, ints))
+  stands_by _ l ts _ (bounds a b s) _ f (by.Fitting.clash _) = no_clash_entailed (number lo hi l) ts f (no_clash lo hi l ts a b a s)
 
   -- a value that sums tokens up stands for them
-  pub sum-stands : (k : Kind) (l : IsTrue (is_cell k lo hi)) (ts : List Token) (v : Value) → SumsUp (cell_of k lo hi l) k ts v → StandsFor (cell_of k lo hi l) v ts
-  sum-stands kinds.Number l ts values.Clash i t f = (λ h. (f, inl i), λ h. refl)
-  sum-stands kinds.Signal l ts values.Clash i t f = (λ h. (f, inl i), λ h. refl)
-  sum-stands kinds.Number l ts (values.Signal on off) i t f = absurd i
-  sum-stands kinds.Signal l ts (values.Number a b) i t f = absurd i
-  sum-stands kinds.Signal l ts (values.Signal a b) i t f = sign_told lo hi l ts a b i t f
-  sum-stands kinds.Number l ts (values.Number a b) i On f = absurd (true_false (sym f))
-  sum-stands kinds.Number l ts (values.Number a b) i Off f = absurd (true_false (sym f))
-  sum-stands kinds.Number l ts (values.Number a b) i (AtLeast k) f = at_least_told lo hi l ts a b k i f
-  sum-stands kinds.Number l ts (values.Number a b) i (AtMost k) f = at_most_told lo hi l ts a b k i f
-  sum-stands kinds.Number l ts (values.Number a b) i Clash f = (λ h. absurd (true_false (sym h)), λ h. go h.1)
-    where
-      go : Clashes (cell_of kinds.Number lo hi l) ts ⊎ EntailsWithoutClash (cell_of kinds.Number lo hi l) ts Clash → IsTrue false
-      go (inl h) = absurd (no_clash lo hi l ts a b a i h)
-      go (inr h) = absurd h
+  pub sum-stands : (k : Kind) (l : IsTrue (is_cell k lo hi)) (ts : List Token) (v : Value) → SumsUp (cell_of k lo hi l) ts k v → StandsFor (cell_of k lo hi l) v ts
+  sum-stands k l ts v s t f = stands_by k l ts v s t f (fitting k t f)

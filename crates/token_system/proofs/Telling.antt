@@ -1,7 +1,7 @@
 -- What telling a token of one cell does to a store: that cell's value has the token more, and every other name keeps its own.
 use Rattle.std.proofs.Common.{◌≡◌, ◌≢◌, Bool, true, false, cond, List, [], ◌∷◌, ◌++◌, Option, Some, None, IfSome, refl, sym, ap, ◌∙◌, subst}
 use Rattle.std.specs.Prelude.{unwrap_or}
-use Rattle.std.specs.FinMap.{get, insert, get-insert}
+use Rattle.std.specs.FinMap.{get, insert, get-insert, empty, get-empty}
 use Rattle.std.specs.Ordering.{is_eq, eq_by_cmp}
 use Rattle.std.specs.Cmp.{eq_by_cmp_equiv}
 use Rattle.std.specs.declared.cmp.Ordering.{Ordering}
@@ -11,9 +11,9 @@ use Rattle.token_system.specs.declared.cell.Cell.{Cell}
 use Rattle.token_system.specs.declared.cell.Token.{Token}
 use Rattle.token_system.specs.declared.cell.Value.{Value}
 use Rattle.token_system.specs.Tokens.{Fits}
-use Rattle.token_system.specs.Values.{bottom_of, value_with, value_eq, StandsFor, IsProper, WithinDomain}
+use Rattle.token_system.specs.Values.{bottom_of, value_with, value_eq, StandsFor, IsProper, IsValueOf, WithinDomain}
 use Rattle.token_system.specs.Names.{name_cmp, name_total, name_cmp-IsAntisymmetric}
-use Rattle.token_system.specs.Stores.{StoreMap, value_at, after_tell, IsKeptFor, CanHold}
+use Rattle.token_system.specs.Stores.{StoreMap, value_at, after_tell, IsKeptFor, CanHold, KeepsProper}
 use Rattle.token_system.proofs.Alike.{true_false, Covers, same_tokens}
 use Rattle.token_system.proofs.Adding.{added, bottom_covered, bottom_within, value_eq-true}
 use Rattle.token_system.proofs.Standing.{with-stands}
@@ -36,6 +36,18 @@ get-insert_other s n q v differ = go (eq_by_cmp name_cmp q n) refl
 
 get-insert_same : (s : StoreMap) (n : CellName) (v : Value) → get (insert s n v) n ≡ Some v
 get-insert_same s n v = get-insert name_total s n v n ∙ ap (λ b. cond b (Some v) (get s n)) ((eq_by_cmp_equiv name_total).refl n)
+
+-- a store with a proper value more keeps proper values
+pub keeps-insert : (s : StoreMap) (n : CellName) (v : Value) → KeepsProper s → IsProper v → KeepsProper (insert s n v)
+keeps-insert s n v h p q w e = go (eq_by_cmp name_cmp q n) refl
+  where
+    go : (b : Bool) → eq_by_cmp name_cmp q n ≡ b → IsProper w
+    go true b = let same : Some v ≡ Some w = sym (ap (λ x. cond x (Some v) (get s q)) b) ∙ sym (get-insert name_total s n v q) ∙ e in let is : v ≡ w = cc in subst IsProper is p
+    go false b = h q w (sym (ap (λ x. cond x (Some v) (get s q)) b) ∙ sym (get-insert name_total s n v q) ∙ e)
+
+-- and one that keeps no value does
+pub keeps-empty : (s : StoreMap) → s ≡ empty → KeepsProper s
+keeps-empty s e q w h = absurd (let none : None ≡ Some w = sym (ap (λ m. get m q) e ∙ get-empty name_cmp q) ∙ h in cc)
 
 -- every other name keeps what it had
 pub get-told_other : (s : StoreMap) (n q : CellName) (c : Cell) (t : Token) → q ≢ n → get (after_tell s n c t) q ≡ get s q
@@ -65,7 +77,12 @@ value_at-told s n c t f kept = go (value_eq (value_with (value_at s n c) t) (bot
     go true e = bottom_already (get s n) kept (value_eq-true _ _ e)
     go false e = ap (λ o. unwrap_or o (bottom_of c)) (get-insert_same s n (value_with (value_at s n c) t))
 
+-- what a store has for a name is a value of its cell
+pub value_kept : (c : Cell) (o : Option Value) → IfSome o (IsKeptFor c) → IsValueOf c (unwrap_or o (bottom_of c))
+value_kept c None h = let b = bottom_within c.kind c.lo c.hi c.lawful in record { domain = b.0; proper = b.1 }
+value_kept c (Some v) h = h.value
+
 -- so it stands for the tokens that it stood for and the new one
 pub told-stands : (s : StoreMap) (n : CellName) (c : Cell) (t : Token) → CanHold s n c t → IfSome (get s n) (IsKeptFor c)
     → (ts : List Token) → StandsFor c (value_at s n c) ts → StandsFor c (value_at (after_tell s n c t) n c) (ts ++ t ∷ [])
-told-stands s n c t can kept ts h = subst (λ (v : Value). StandsFor c v (ts ++ t ∷ [])) (sym (value_at-told s n c t can.fits kept)) (with-stands c ts (value_at s n c) t can.fits can.kind can.proper h)
+told-stands s n c t can kept ts h = subst (λ (v : Value). StandsFor c v (ts ++ t ∷ [])) (sym (value_at-told s n c t can.fits kept)) (with-stands c ts (value_at s n c) t can.fits (value_kept c (get s n) kept) h)

@@ -14,9 +14,11 @@ IsBelow c x y = (t : Token) → Fits c t → IsTrue (value_entails x t) → IsTr
 
 -- two values are of one kind, where a clash is of each
 abbrev pub AreOfOneKind : Value → Value → Type 0
-AreOfOneKind (values.Signal on off) (values.Number lo hi) = ⊥
-AreOfOneKind (values.Number lo hi) (values.Signal on off) = ⊥
-AreOfOneKind _ _ = Unit {0}
+AreOfOneKind values.Clash w = Unit {0}
+AreOfOneKind v values.Clash = Unit {0}
+AreOfOneKind (values.Signal a b) (values.Signal c d) = Unit {0}
+AreOfOneKind (values.Number a b) (values.Number c d) = Unit {0}
+AreOfOneKind _ _ = ⊥
 
 -- b holds where a does
 abbrev pub implies : Bool → Bool → Bool

@@ -1,5 +1,5 @@
 -- Tokens, and what a list of tokens of one cell entails: a constraint system in the sense of Saraswat, Jagadeesan and Gupta (1994), of which this instance is this project's own.
-use Rattle.std.specs.Prelude.{◌≡◌, ◌⊎◌, ◌<ℤ◌, ◌≤ℤ◌, Bool, true, false, ◌&&◌, not, ℤ, List, Contains, IsTrue}
+use Rattle.std.specs.Prelude.{◌≡◌, ◌⊎◌, ◌<ℤ◌, ◌≤ℤ◌, Bool, true, false, ◌&&◌, ℤ, List, Contains, IsTrue}
 use Rattle.token_system.specs.declared.cell.Kind.{Kind}
 use Rattle.token_system.specs.declared.cell.Kind.TheVariants as kinds
 use Rattle.token_system.specs.declared.cell.Cell.{Cell}
@@ -10,14 +10,19 @@ use Rattle.token_system.specs.Domain.{is_bound}
 -- the kind is that of signals
 abbrev pub is_signal : Kind → Bool
 is_signal kinds.Signal = true
-is_signal kinds.Number = false
+is_signal _ = false
+
+-- the kind is that of numbers
+abbrev pub is_number : Kind → Bool
+is_number kinds.Number = true
+is_number _ = false
 
 -- the token is of the kind, and its bound is within the limits
 abbrev pub fits_kind : Kind → Token → Bool
 fits_kind k On = is_signal k
 fits_kind k Off = is_signal k
-fits_kind k (AtLeast n) = not (is_signal k) && is_bound n
-fits_kind k (AtMost n) = not (is_signal k) && is_bound n
+fits_kind k (AtLeast n) = is_number k && is_bound n
+fits_kind k (AtMost n) = is_number k && is_bound n
 fits_kind k Clash = true
 
 -- the token is one of the cell's

@@ -1,5 +1,5 @@
 -- Values: each stands for all tokens of a cell that some tokens entail. A value is what this project keeps in their place.
-use Rattle.std.specs.Prelude.{◌↔◌, ◌≤ℤ◌, Bool, true, false, ◌&&◌, not, cond, ℤ, List, IsTrue, int_le, int_lt}
+use Rattle.std.specs.Prelude.{◌↔◌, ◌≤ℤ◌, Bool, true, false, ◌&&◌, not, cond, ℤ, List, [], ◌∷◌, ◌++◌, IsTrue, int_le, int_lt}
 use Rattle.std.specs.Ordering.{int_eq}
 use Rattle.token_system.specs.declared.cell.Kind.{Kind}
 use Rattle.token_system.specs.declared.cell.Kind.TheVariants as kinds
@@ -17,12 +17,7 @@ value_entails (values.Signal on off) On = on
 value_entails (values.Signal on off) Off = off
 value_entails (values.Number lo hi) (AtLeast k) = int_le k lo
 value_entails (values.Number lo hi) (AtMost k) = int_le hi k
-value_entails (values.Signal on off) (AtLeast k) = false
-value_entails (values.Signal on off) (AtMost k) = false
-value_entails (values.Signal on off) Clash = false
-value_entails (values.Number lo hi) On = false
-value_entails (values.Number lo hi) Off = false
-value_entails (values.Number lo hi) Clash = false
+value_entails _ _ = false
 
 -- the value stands for the tokens: it entails what they entail, of what fits the cell
 abbrev pub StandsFor : Cell → Value → List Token → Type 0
@@ -37,10 +32,9 @@ IsProper values.Clash = Unit {0}
 -- the value is of the kind, and its bounds lie within the domain
 abbrev pub WithinDomain : ℤ → ℤ → Kind → Value → Type 0
 WithinDomain least most kinds.Signal (values.Signal on off) = Unit {0}
-WithinDomain least most kinds.Signal (values.Number lo hi) = ⊥
-WithinDomain least most kinds.Number (values.Signal on off) = ⊥
 WithinDomain least most kinds.Number (values.Number lo hi) = (least ≤ℤ lo) × (hi ≤ℤ most)
 WithinDomain least most _ values.Clash = Unit {0}
+WithinDomain least most _ _ = ⊥
 
 -- the value is one of the cell's
 pub record IsValueOf (c : Cell) (v : Value) : Type 0 where
@@ -58,11 +52,13 @@ bottom_of c = bottom_for c.kind c.lo c.hi
 
 -- a value and a token are of one kind, where a clash is of each
 abbrev pub OfOneKind : Value → Token → Type 0
-OfOneKind (values.Signal on off) (AtLeast k) = ⊥
-OfOneKind (values.Signal on off) (AtMost k) = ⊥
-OfOneKind (values.Number lo hi) On = ⊥
-OfOneKind (values.Number lo hi) Off = ⊥
-OfOneKind _ _ = Unit {0}
+OfOneKind values.Clash t = Unit {0}
+OfOneKind v Clash = Unit {0}
+OfOneKind (values.Signal on off) On = Unit {0}
+OfOneKind (values.Signal on off) Off = Unit {0}
+OfOneKind (values.Number lo hi) (AtLeast k) = Unit {0}
+OfOneKind (values.Number lo hi) (AtMost k) = Unit {0}
+OfOneKind _ _ = ⊥
 
 -- the value with one token more
 abbrev pub value_with : Value → Token → Value
@@ -71,12 +67,18 @@ value_with (values.Signal on off) On = cond off values.Clash (values.Signal true
 value_with (values.Signal on off) Off = cond on values.Clash (values.Signal on true)
 value_with (values.Number lo hi) (AtLeast k) = cond (int_le k lo) (values.Number lo hi) (cond (int_lt hi k) values.Clash (values.Number k hi))
 value_with (values.Number lo hi) (AtMost k) = cond (int_le hi k) (values.Number lo hi) (cond (int_lt k lo) values.Clash (values.Number lo k))
-value_with (values.Signal on off) (AtLeast k) = values.Clash
-value_with (values.Signal on off) (AtMost k) = values.Clash
-value_with (values.Signal on off) Clash = values.Clash
-value_with (values.Number lo hi) On = values.Clash
-value_with (values.Number lo hi) Off = values.Clash
-value_with (values.Number lo hi) Clash = values.Clash
+value_with _ _ = values.Clash
+
+-- a token, if it is told
+abbrev pub token_where : Bool → Token → List Token
+token_where true t = t ∷ []
+token_where false t = []
+
+-- tokens that tell all that the value entails
+abbrev pub value_tokens : Value → List Token
+value_tokens values.Clash = Clash ∷ []
+value_tokens (values.Signal on off) = token_where on On ++ token_where off Off
+value_tokens (values.Number lo hi) = AtLeast lo ∷ AtMost hi ∷ []
 
 -- both are true, or both are false
 abbrev pub bool_eq : Bool → Bool → Bool

@@ -1,6 +1,6 @@
 //! Worked examples of what tokens entail, and of what a store keeps.
 ghost use Rattle.std.specs.Prelude.{IsTrue};
-ghost use Rattle.token_system.specs.StoreJoins.{CanMeet};
+ghost use Rattle.token_system.specs.Joins.{AreOfOneKind};
 ghost use Rattle.token_system.specs.Stores.{CanHold};
 ghost use Rattle.token_system.specs.Values.{IsProper, OfOneKind};
 
@@ -378,7 +378,7 @@ fn an_empty_store_is_below_each_and_adds_nothing(rt: HostRuntime) -> Result<(), 
 }
 
 fn meet(a: Value, b: Value) -> bool
-    ensures { IsTrue result → CanMeet a b }
+    ensures { IsTrue result → AreOfOneKind a b }
 {
     match (a, b) {
         (

@@ -1,5 +1,5 @@
 -- The texts of a store line say the tokens of its values.
-use Rattle.std.proofs.Common.{◌≡◌, ℕ, ◌+◌, ◌-◌, ◌*◌, ◌≤◌, Bool, true, false, cond, ◌&&◌, not, ℤ, List, [], ◌∷◌, ◌++◌, length, take, Some, None, refl, sym, ap, ◌∙◌, subst, append_assoc, arith}
+use Rattle.std.proofs.Common.{◌≡◌, ℕ, ◌+◌, ◌-◌, ◌*◌, ◌≤◌, Bool, true, false, cond, ◌&&◌, ℤ, List, [], ◌∷◌, ◌++◌, length, take, Some, None, refl, sym, ap, ◌∙◌, subst, append_assoc, arith}
 use Rattle.std.specs.Prelude.{Option, IsTrue, int_lt, codes, filter, slice_get}
 use Rattle.std.specs.Ordering.{int_eq}
 use Rattle.std.specs.Fmt.{signed_decimal}
@@ -12,7 +12,7 @@ use Rattle.token_system.specs.declared.cell.Value.{Value}
 use Rattle.token_system.specs.declared.cell.Value.TheVariants as values
 use Rattle.token_system.specs.declared.reading.Written.{Written}
 use Rattle.token_system.specs.Domain.{is_bound}
-use Rattle.token_system.specs.Tokens.{Fits, token_fits, is_signal}
+use Rattle.token_system.specs.Tokens.{Fits, token_fits, is_number}
 use Rattle.token_system.specs.Values.{bottom_of, value_eq, IsProper, WithinDomain}
 use Rattle.token_system.specs.Texts.{is_name, text_of, written_of, exactly, IsTokenText, plain}
 use Rattle.token_system.proofs.ReadBack.{fitting_reads_back, number-signed_decimal}
@@ -118,7 +118,7 @@ module _ (p : CoreProgram) (n : ℕ) (d : CellDecl) (found : slice_get p.cells n
         rest = codes "=" ++ signed_decimal k;
         parts = append_assoc d.name (codes "=") (signed_decimal k);
         is_a_name = own;
-        tail = exactly (signed_decimal k) k refl (number-signed_decimal k (second_of_both (not (is_signal d.cell.kind)) (is_bound k) low)) refl refl;
+        tail = exactly (signed_decimal k) k refl (number-signed_decimal k (second_of_both (is_number d.cell.kind) (is_bound k) low)) refl refl;
         start = refl;
         ends = refl;
       });

@@ -1,7 +1,6 @@
 //! Words of stores, and stores of words.
-ghost use Rattle.std.specs.Prelude.{◌≡◌, ◌≤◌, ◌++◌, IfOk, OnErr, OnOk, length, take};
-ghost use Rattle.std.specs.FinMap as map;
-ghost use Rattle.token_system.specs.Stores.{stored, value_at};
+ghost use Rattle.std.specs.Prelude.{◌≡◌, ◌≤◌, ◌++◌, IfOk, OnOk, length, take};
+ghost use Rattle.token_system.specs.Stores.{value_at};
 ghost use Rattle.token_system.specs.Values.{IsValueOf};
 ghost use Rattle.instant_net.specs.Outputs.{IsStoreOf};
 ghost use Rattle.instant_net.specs.Words.{kind_words, store_in, store_words, AreWords};
@@ -9,7 +8,7 @@ ghost use Rattle.instant_net.specs.Words.{kind_words, store_in, store_words, Are
 use crate::net::{Net, shifted};
 use crate::words::{Words, value};
 use std::alloc::Global;
-use token_system::{Cell, CellName, Kind, Memory, Store, Token, Value, bottom};
+use token_system::{Cell, CellName, Kind, Memory, Store, Value, bottom};
 
 /// What the lower bound of a number is where it clashes: above each upper bound.
 const CLASH: u64 = 4_294_967_296;
@@ -78,28 +77,7 @@ pub fn declared_store(alloc: Global, net: &Net, words: &Words, cells: u32) -> Re
     let mut store = Store::new(alloc);
     for place in 0..cells {
         let name = net.cell_name(place).copy()?;
-        keep(&mut store, name, net.cell(place), value(net, words, place))?;
+        store.keep(name, net.cell(place), value(net, words, place))?;
     }
     Ok(store)
-}
-
-// Tells the tokens that make this the value of a cell of which the store keeps nothing.
-fn keep(store: &mut Store, name: CellName, cell: Cell, value: Value) -> Result<(), Memory>
-    requires absent { map.get store.old name ≡ None }
-    requires value { IsValueOf cell value }
-    ensures { OnOk result (store.new ≡ stored store.old name cell value) }
-{
-    if value == bottom(cell) {
-        return Ok(());
-    }
-    match value {
-        Value::Signal { on: true, .. } => store.tell(name, cell, Token::On),
-        Value::Signal { off: true, .. } => store.tell(name, cell, Token::Off),
-        Value::Signal { .. } => Ok(()),
-        Value::Number { lo, hi } => {
-            store.tell(name.copy()?, cell, Token::AtLeast(lo))?;
-            store.tell(name, cell, Token::AtMost(hi))
-        }
-        Value::Clash => store.tell(name, cell, Token::Clash),
-    }
 }

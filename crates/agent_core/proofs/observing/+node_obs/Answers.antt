@@ -102,7 +102,7 @@ node_obs-node_obs-requires-in-Else t c =
 
 pub node_obs-node_obs-requires-in-New : goal.node_obs-node_obs-requires-in-New
 node_obs-node_obs-requires-in-New t c =
-    let grown : c.deref.result.now ≡ c.args.births.now ++ c.args.start ∷ [] = c.deref.ensures.value ∙ c.in_ok-push-in-New.ensures.items ∙ ap (λ (xs : List ℕ). xs ++ c.args.start ∷ []) (c.in_ok-inner-in-New.ensures.items_if_clones_equal (λ x y h. h)) in
+    let grown : c.list.result.now ≡ c.args.births.now ++ c.args.start ∷ [] = c.list.ensures ∙ c.in_ok-inner-in-New.ensures in
     let part =
     new_body c.args.program.now c.nodes.ensures.program c.args.node c.args.births.now c.requires.closure c.in-New.cell c.in-New.body c.args.start
     (node_found c.args.program.now c.nodes.result.now c.args.node c.index-nodes-node.result c.nodes.ensures.all c.requires.closure.node c.index-nodes-node.is ∙ ap Some c.in-New.is) in
@@ -153,10 +153,10 @@ node_obs-returns-else-refuted t c =
     (node_found c.args.program.now c.nodes.result.now c.args.node c.index-nodes-node.result c.nodes.ensures.all c.requires.closure.node c.index-nodes-node.is ∙ ap Some c.in-Else.is) (sym c.if-refuted.false ∙ c.in_ok-refuted-in-Else.ensures))
     c.node_obs-in-Else.ensures
 
-pub node_obs-returns-in_ok-push-in-New : goal.node_obs-returns-in_ok-push-in-New
-node_obs-returns-in_ok-push-in-New t c =
-    let grown : c.deref.result.now ≡ c.args.births.now ++ c.args.start ∷ [] = c.deref.ensures.value ∙ c.in_ok-push-in-New.ensures.items ∙ ap (λ (xs : List ℕ). xs ++ c.args.start ∷ []) (c.in_ok-inner-in-New.ensures.items_if_clones_equal (λ x y h. h)) in
-    same_answer c.node_obs-in-New.result (obs c.args.program.now c.in-New.body c.deref.result.now c.args.start c.args.closed.now c.args.u.now c.args.v.now) (obs c.args.program.now c.args.node c.args.births.now c.args.start c.args.closed.now c.args.u.now c.args.v.now)
+pub node_obs-returns-in_ok-inner-in-New : goal.node_obs-returns-in_ok-inner-in-New
+node_obs-returns-in_ok-inner-in-New t c =
+    let grown : c.list.result.now ≡ c.args.births.now ++ c.args.start ∷ [] = c.list.ensures ∙ c.in_ok-inner-in-New.ensures in
+    same_answer c.node_obs-in-New.result (obs c.args.program.now c.in-New.body c.list.result.now c.args.start c.args.closed.now c.args.u.now c.args.v.now) (obs c.args.program.now c.args.node c.args.births.now c.args.start c.args.closed.now c.args.u.now c.args.v.now)
     (
     ap (λ (b : List ℕ). obs c.args.program.now c.in-New.body b c.args.start c.args.closed.now c.args.u.now c.args.v.now) grown
     ∙ new-obs c.args.program.now c.nodes.ensures.program c.args.node c.args.births.now c.requires.closure c.args.start c.args.closed.now c.in-Some.first.now c.in-Some.later.now c.in-Some.ensures.cases.0 c.args.u.now c.args.v.now c.in-New.cell c.in-New.body

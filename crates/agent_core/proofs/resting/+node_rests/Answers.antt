@@ -73,7 +73,7 @@ node_rests-requires-in-Else t c =
 
 pub node_rests-requires-in-New : goal.node_rests-requires-in-New
 node_rests-requires-in-New t c =
-    let grown : c.deref.result.now ≡ c.args.births.now ++ c.args.t ∷ [] = c.deref.ensures.value ∙ c.in_ok-push-in-New.ensures.items ∙ ap (λ (xs : List ℕ). xs ++ c.args.t ∷ []) (c.in_ok-inner-in-New.ensures.items_if_clones_equal (λ x y h. h)) in
+    let grown : c.list.result.now ≡ c.args.births.now ++ c.args.t ∷ [] = c.list.ensures ∙ c.in_ok-inner-in-New.ensures in
     let part =
     new_body c.args.program.now c.nodes.ensures.program c.args.node c.args.births.now c.requires.closure c.in-New.cell c.in-New.body c.args.t
     (node_found c.args.program.now c.nodes.result.now c.args.node c.index-nodes-node.result c.nodes.ensures.all c.requires.closure.node c.index-nodes-node.is ∙ ap Some c.in-New.is) in
@@ -81,10 +81,10 @@ node_rests-requires-in-New t c =
     let inside = part.inside in
     (omega arith, (subst (IsClosure c.args.program.now c.in-New.body) (sym grown) part.is_closure, (c.requires.store, c.requires.guess)))
 
-pub returns-in_ok-push-in-New : goal.returns-in_ok-push-in-New
-returns-in_ok-push-in-New t c =
-    let grown : c.deref.result.now ≡ c.args.births.now ++ c.args.t ∷ [] = c.deref.ensures.value ∙ c.in_ok-push-in-New.ensures.items ∙ ap (λ (xs : List ℕ). xs ++ c.args.t ∷ []) (c.in_ok-inner-in-New.ensures.items_if_clones_equal (λ x y h. h)) in
-    same_answer c.node_rests-in-New.result (rests c.args.program.now c.in-New.body c.deref.result.now c.args.t c.args.u.now c.args.v.now) (rests c.args.program.now c.args.node c.args.births.now c.args.t c.args.u.now c.args.v.now)
+pub returns-in_ok-inner-in-New : goal.returns-in_ok-inner-in-New
+returns-in_ok-inner-in-New t c =
+    let grown : c.list.result.now ≡ c.args.births.now ++ c.args.t ∷ [] = c.list.ensures ∙ c.in_ok-inner-in-New.ensures in
+    same_answer c.node_rests-in-New.result (rests c.args.program.now c.in-New.body c.list.result.now c.args.t c.args.u.now c.args.v.now) (rests c.args.program.now c.args.node c.args.births.now c.args.t c.args.u.now c.args.v.now)
     (
     ap (λ (b : List ℕ). rests c.args.program.now c.in-New.body b c.args.t c.args.u.now c.args.v.now) grown
     ∙ new-rests c.args.program.now c.nodes.ensures.program c.args.node c.args.births.now c.requires.closure c.args.t c.args.u.now c.args.v.now c.in-New.cell c.in-New.body

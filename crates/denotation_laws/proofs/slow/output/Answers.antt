@@ -9,7 +9,7 @@ use Rattle.denotation_laws.proofs.slow.output.Goals as goal
 pub loop-stratum-init : goal.loop-stratum-init
 loop-stratum-init c = record {
   store = subst (IsStore c.args.program.now) (sym c.in_ok-store.ensures) c.requires.input;
-  way = λ v out. subst (IsOnWay c.args.program.now c.args.levels.now c.args.input.now v 0) (sym c.in_ok-store.ensures) (way-start c.args.program.now c.args.levels.now c.strata_of-strata.ensures.program c.requires.stratified c.args.closed.now c.args.input.now v out);
+  way = λ v out. subst (IsOnWay c.args.program.now c.args.levels.now c.args.input.now v 0) (sym c.in_ok-store.ensures) (way-start c.args.program.now c.args.levels.now c.requires.program c.requires.stratified c.args.closed.now c.args.input.now v out);
 }
 
 pub loop-stratum-preserved : goal.loop-stratum-preserved
@@ -20,10 +20,10 @@ loop-stratum-preserved c = record {
 
 pub returns : goal.returns
 returns c =
-    let one = has_output c.args.program.now c.args.levels.now c.strata_of-strata.ensures.program c.requires.stratified c.args.closed.now c.args.input.now c.requires.input in
-    let all : c.loop-stratum.stratum ≡ c.strata_of-strata.result = omega arith in
-    let way : IsOnWay c.args.program.now c.args.levels.now c.args.input.now one.0 c.strata_of-strata.result c.loop-stratum.store =
+    let one = has_output c.args.program.now c.args.levels.now c.requires.program c.requires.stratified c.args.closed.now c.args.input.now c.requires.input in
+    let all : c.loop-stratum.stratum ≡ c.args.strata = omega arith in
+    let way : IsOnWay c.args.program.now c.args.levels.now c.args.input.now one.0 c.args.strata c.loop-stratum.store =
     subst (λ (k : ℕ). IsOnWay c.args.program.now c.args.levels.now c.args.input.now one.0 k c.loop-stratum.store) all (c.loop-stratum.invariant.way one.0 one.1) in
     subst (IsOutput c.args.program.now c.args.closed.now c.args.input.now)
-    (sym (way-end c.args.program.now c.args.levels.now c.strata_of-strata.ensures.program c.requires.stratified c.args.closed.now c.strata_of-strata.result c.strata_of-strata.ensures.below c.loop-stratum.store c.args.input.now one.0 one.1 way))
+    (sym (way-end c.args.program.now c.args.levels.now c.requires.program c.requires.stratified c.args.closed.now c.args.strata c.requires.strata c.loop-stratum.store c.args.input.now one.0 one.1 way))
     one.1

@@ -3,6 +3,7 @@ use Rattle.std.proofs.lemmas.List.Elements.{All-push, All-nil}
 use Rattle.token_system.specs.Stores.{StoreMap}
 use Rattle.agent_core.specs.Outputs.{IsOutput, IsRun}
 use Rattle.agent_core.specs.Stores.{IsStore}
+use Rattle.agent_laws.proofs.Runs.{one_run}
 use Rattle.denotation_laws.proofs.Runs.{no_run, input-store, run-more, run-whole, run-few}
 use Rattle.denotation_laws.proofs.slow.slow_run.Goals as goal
 
@@ -34,5 +35,10 @@ loop-input-preserved c =
       stores = subst (All (IsStore c.args.program.now)) (sym c.in_ok-push.ensures.items) (All-push (IsStore c.args.program.now) c.loop-input.outs.items c.in_ok-store.store c.loop-input.invariant.stores out.store);
     }
 
-pub returns : goal.returns
-returns c = run-whole c.args.program.now c.args.ins.now c.loop-input.outs.items c.loop-input.input-index c.loop-input-test.false c.loop-input.invariant.run
+pub returns-clause-complete : goal.returns-clause-complete
+returns-clause-complete c = λ others run.
+    one_run c.args.program.now c.args.levels.now c.strata_of-strata.ensures.program c.requires.stratified c.args.ins.now others c.loop-input.outs.items run
+    (run-whole c.args.program.now c.args.ins.now c.loop-input.outs.items c.loop-input.input-index c.loop-input-test.false c.loop-input.invariant.run)
+
+pub returns-clause-run : goal.returns-clause-run
+returns-clause-run c = run-whole c.args.program.now c.args.ins.now c.loop-input.outs.items c.loop-input.input-index c.loop-input-test.false c.loop-input.invariant.run

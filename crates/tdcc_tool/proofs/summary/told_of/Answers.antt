@@ -15,7 +15,7 @@ loop-cell-preserved c =
       | then-is_some v ↦ v.told-is ∙ ap (λ (b : Bool). c.loop-cell.told + cond b 1 0) (sym v.if-is_some.true)
       | else-is_some v ↦ v.told-is ∙ (let same : c.loop-cell.told ≡ c.loop-cell.told + 0 = omega arith in same) ∙ ap (λ (b : Bool). c.loop-cell.told + cond b 1 0) (sym v.if-is_some.false)
     ] in
-    let is : c.is_some.result ≡ is_told c.args.store.now c.loop-cell.cell = c.is_some.ensures ∙ ap is_some c.get.ensures in
+    let is : c.is_some.result ≡ is_told c.args.store.now c.loop-cell.cell = c.is_some.ensures ∙ ap is_some c.get.ensures.kept in
     told ∙ ap (λ (b : Bool). c.loop-cell.told + cond b 1 0) is ∙ ap (λ (k : ℕ). k + cond (is_told c.args.store.now c.loop-cell.cell) 1 0) c.loop-cell.invariant
     ∙ sym (filtered-more (is_told c.args.store.now) c.loop-cell.cell)
 

@@ -23,7 +23,7 @@ returns-in_err-write_cell-clause-err c =
 pub loop-place-preserved : goal.loop-place-preserved
 loop-place-preserved c =
     cells-step (take c.args.program.now.declared c.args.program.now.cells) c.args.store.now c.loop-place.place c.args.into.now.items c.loop-place.into.items c.loop-place.invariant c.name_at.result.now
-    c.in-Some.decl.now c.kept_at.result c.write_cell.new.into.items c.name_at.ensures c.kept_at.ensures (sym (rw (c.declared.ensures.number, c.cells.ensures.all) at c.in-Some.ensures))
+    c.in-Some.decl.now c.kept_at.result c.write_cell.new.into.items c.name_at.ensures c.kept_at.ensures.kept (sym (rw (c.declared.ensures.number, c.cells.ensures.all) at c.in-Some.ensures))
     c.in_ok-write_cell.ensures.ok
 
 pub returns-clause-ok : goal.returns-clause-ok

@@ -1,4 +1,4 @@
-use Rattle.std.proofs.Common.{◌≡◌, List, [], ◌∷◌, ◌++◌, ℕ, Some, sym, ap, ◌∙◌, subst, arith}
+use Rattle.std.proofs.Common.{◌≡◌, [], ◌∷◌, ◌++◌, Some, sym, ap, ◌∙◌, subst, arith}
 use Rattle.agent_core.specs.Names.{IsClosure}
 use Rattle.agent_core.specs.declared.node.Node.TheVariants as nodes
 use Rattle.agent_core.proofs.RestTests.{node_found, own_ask_fits, left_of, right_of, then_body, else_body, new_body}
@@ -10,13 +10,13 @@ tell_due-requires-clause-fits t c =
     own_ask_fits c.args.self.now.program.now c.nodes.ensures.program c.args.node c.args.births.now c.requires.closure (nodes.Tell c.in-Tell.ask)
     (node_found c.args.self.now.program.now c.nodes.result.now c.args.node c.index-nodes-node.result c.nodes.ensures.all c.requires.closure.node c.index-nodes-node.is ∙ ap Some c.in-Tell.is)
 
-pub has_all-requires-clause-fits : goal.has_all-requires-clause-fits
-has_all-requires-clause-fits t c =
+pub entails-requires-clause-fits : goal.entails-requires-clause-fits
+entails-requires-clause-fits t c =
     own_ask_fits c.args.self.now.program.now c.nodes.ensures.program c.args.node c.args.births.now c.requires.closure (nodes.Then c.in-Then.ask c.in-Then.body)
     (node_found c.args.self.now.program.now c.nodes.result.now c.args.node c.index-nodes-node.result c.nodes.ensures.all c.requires.closure.node c.index-nodes-node.is ∙ ap Some c.in-Then.is)
 
-pub has_all-requires-in-Else-clause-fits : goal.has_all-requires-in-Else-clause-fits
-has_all-requires-in-Else-clause-fits t c =
+pub entails-requires-in-Else-clause-fits : goal.entails-requires-in-Else-clause-fits
+entails-requires-in-Else-clause-fits t c =
     own_ask_fits c.args.self.now.program.now c.nodes.ensures.program c.args.node c.args.births.now c.requires.closure (nodes.Else c.in-Else.ask c.in-Else.body)
     (node_found c.args.self.now.program.now c.nodes.result.now c.args.node c.index-nodes-node.result c.nodes.ensures.all c.requires.closure.node c.index-nodes-node.is ∙ ap Some c.in-Else.is)
 
@@ -58,7 +58,7 @@ tell_now-requires-in-Else t c =
 
 pub tell_now-requires-in-New : goal.tell_now-requires-in-New
 tell_now-requires-in-New t c =
-    let grown : c.deref.result.now ≡ c.args.births.now ++ c.args.self.now.instant ∷ [] = c.deref.ensures.value ∙ c.in_ok-push-in-New.ensures.items ∙ ap (λ (xs : List ℕ). xs ++ c.args.self.now.instant ∷ []) (c.in_ok-inner-in-New.ensures.items_if_clones_equal (λ x y h. h)) in
+    let grown : c.list.result.now ≡ c.args.births.now ++ c.args.self.now.instant ∷ [] = c.list.ensures ∙ c.in_ok-inner-in-New.ensures in
     let part =
     new_body c.args.self.now.program.now c.nodes.ensures.program c.args.node c.args.births.now c.requires.closure c.in-New.cell c.in-New.body c.args.self.now.instant
     (node_found c.args.self.now.program.now c.nodes.result.now c.args.node c.index-nodes-node.result c.nodes.ensures.all c.requires.closure.node c.index-nodes-node.is ∙ ap Some c.in-New.is) in
@@ -123,9 +123,9 @@ returns-else-refuted t c =
     (node_found c.args.self.now.program.now c.nodes.result.now c.args.node c.index-nodes-node.result c.nodes.ensures.all c.requires.closure.node c.index-nodes-node.is ∙ ap Some c.in-Else.is)
     (sym c.in_ok-refuted-in-Else.ensures ∙ c.if-refuted.false) c.tell_now-in-Else.new.store c.tell_now-in-Else.ensures
 
-pub returns-in_ok-push-in-New : goal.returns-in_ok-push-in-New
-returns-in_ok-push-in-New t c =
-    let grown : c.deref.result.now ≡ c.args.births.now ++ c.args.self.now.instant ∷ [] = c.deref.ensures.value ∙ c.in_ok-push-in-New.ensures.items ∙ ap (λ (xs : List ℕ). xs ++ c.args.self.now.instant ∷ []) (c.in_ok-inner-in-New.ensures.items_if_clones_equal (λ x y h. h)) in
+pub returns-in_ok-inner-in-New : goal.returns-in_ok-inner-in-New
+returns-in_ok-inner-in-New t c =
+    let grown : c.list.result.now ≡ c.args.births.now ++ c.args.self.now.instant ∷ [] = c.list.ensures ∙ c.in_ok-inner-in-New.ensures in
     new-now c.args.self.now.program.now c.nodes.ensures.program c.args.node c.args.births.now c.requires.closure c.args.self.now.levels.now c.args.self.now.stratum c.args.self.now.instant c.args.store.now c.tell_now-in-New.result c.in-New.cell c.in-New.body
     (node_found c.args.self.now.program.now c.nodes.result.now c.args.node c.index-nodes-node.result c.nodes.ensures.all c.requires.closure.node c.index-nodes-node.is ∙ ap Some c.in-New.is)
-    c.deref.result.now grown c.tell_now-in-New.new.store c.tell_now-in-New.ensures
+    c.list.result.now grown c.tell_now-in-New.new.store c.tell_now-in-New.ensures

@@ -1,4 +1,4 @@
-use Rattle.std.proofs.Common.{◌≡◌, ◌-◌, true, false, refl, List, [], ◌∷◌, ◌++◌, ℕ, Some, length, sym, ap, ◌∙◌, subst, arith, length-drop}
+use Rattle.std.proofs.Common.{◌≡◌, ◌-◌, true, false, refl, List, [], ◌∷◌, ◌++◌, Some, length, sym, ap, ◌∙◌, subst, arith, length-drop}
 use Rattle.std.specs.List.{All}
 use Rattle.std.proofs.lemmas.List.{take_rest}
 use Rattle.std.proofs.lemmas.List.Elements.{All-drop, All-head, All-rest}
@@ -40,21 +40,21 @@ pub tell_hence-returns : goal.tell_hence-returns
 tell_hence-returns t c =
     last-tells c.args.self.now.program.now c.args.self.now.levels.now c.args.self.now.stratum c.args.self.now.instant c.args.node c.args.births.now c.args.closed.now c.args.store.now c.loop-k.k c.loop-k.store c.loop-k.invariant c.tell_now.result c.tell_now.new.store c.loop-k-test.false c.tell_now.ensures
 
-pub tell_since-has_all-requires-clause-store : goal.tell_since-has_all-requires-clause-store
-tell_since-has_all-requires-clause-store t c =
+pub tell_since-entails-requires-clause-store : goal.tell_since-entails-requires-clause-store
+tell_since-entails-requires-clause-store t c =
     All-head (IsStore c.args.self.now.program.now) c.in-Some.first.now c.in-Some.later.now (subst (All (IsStore c.args.self.now.program.now)) c.in-Some.ensures.cases.0 c.requires.closed)
 
-pub tell_since-has_all-requires-clause-fits : goal.tell_since-has_all-requires-clause-fits
-tell_since-has_all-requires-clause-fits t c =
+pub tell_since-entails-requires-clause-fits : goal.tell_since-entails-requires-clause-fits
+tell_since-entails-requires-clause-fits t c =
     own_ask_fits c.args.self.now.program.now c.nodes.ensures.program c.args.node c.args.births.now c.requires.closure (nodes.Then c.in-Then.ask c.in-Then.body)
     (node_found c.args.self.now.program.now c.nodes.result.now c.args.node c.index-nodes-node.result c.nodes.ensures.all c.requires.closure.node c.index-nodes-node.is ∙ ap Some c.in-Then.is)
 
-pub tell_since-has_all-requires-in-Else-clause-store : goal.tell_since-has_all-requires-in-Else-clause-store
-tell_since-has_all-requires-in-Else-clause-store t c =
+pub tell_since-entails-requires-in-Else-clause-store : goal.tell_since-entails-requires-in-Else-clause-store
+tell_since-entails-requires-in-Else-clause-store t c =
     All-head (IsStore c.args.self.now.program.now) c.in-Some.first.now c.in-Some.later.now (subst (All (IsStore c.args.self.now.program.now)) c.in-Some.ensures.cases.0 c.requires.closed)
 
-pub tell_since-has_all-requires-in-Else-clause-fits : goal.tell_since-has_all-requires-in-Else-clause-fits
-tell_since-has_all-requires-in-Else-clause-fits t c =
+pub tell_since-entails-requires-in-Else-clause-fits : goal.tell_since-entails-requires-in-Else-clause-fits
+tell_since-entails-requires-in-Else-clause-fits t c =
     own_ask_fits c.args.self.now.program.now c.nodes.ensures.program c.args.node c.args.births.now c.requires.closure (nodes.Else c.in-Else.ask c.in-Else.body)
     (node_found c.args.self.now.program.now c.nodes.result.now c.args.node c.index-nodes-node.result c.nodes.ensures.all c.requires.closure.node c.index-nodes-node.is ∙ ap Some c.in-Else.is)
 
@@ -96,7 +96,7 @@ tell_since-tell_since-requires-in-Else t c =
 
 pub tell_since-tell_since-requires-in-New : goal.tell_since-tell_since-requires-in-New
 tell_since-tell_since-requires-in-New t c =
-    let grown : c.deref.result.now ≡ c.args.births.now ++ (c.args.self.now.instant - length c.args.closed.now) ∷ [] = c.deref.ensures.value ∙ c.in_ok-push-in-New.ensures.items ∙ ap (λ (xs : List ℕ). xs ++ (c.args.self.now.instant - length c.args.closed.now) ∷ []) (c.in_ok-inner-in-New.ensures.items_if_clones_equal (λ x y h. h)) in
+    let grown : c.list.result.now ≡ c.args.births.now ++ (c.args.self.now.instant - length c.args.closed.now) ∷ [] = c.list.ensures ∙ c.in_ok-inner-in-New.ensures in
     let part =
     new_body c.args.self.now.program.now c.nodes.ensures.program c.args.node c.args.births.now c.requires.closure c.in-New.cell c.in-New.body (c.args.self.now.instant - length c.args.closed.now)
     (node_found c.args.self.now.program.now c.nodes.result.now c.args.node c.index-nodes-node.result c.nodes.ensures.all c.requires.closure.node c.index-nodes-node.is ∙ ap Some c.in-New.is) in
@@ -180,12 +180,12 @@ tell_since-returns-else-refuted t c =
     (node_found c.args.self.now.program.now c.nodes.result.now c.args.node c.index-nodes-node.result c.nodes.ensures.all c.requires.closure.node c.index-nodes-node.is ∙ ap Some c.in-Else.is) (sym c.in_ok-refuted-in-Else.ensures ∙ c.if-refuted.false))
     c.tell_since-in-Else.ensures
 
-pub tell_since-returns-in_ok-push-in-New : goal.tell_since-returns-in_ok-push-in-New
-tell_since-returns-in_ok-push-in-New t c =
-    let grown : c.deref.result.now ≡ c.args.births.now ++ (c.args.self.now.instant - length c.args.closed.now) ∷ [] = c.deref.ensures.value ∙ c.in_ok-push-in-New.ensures.items ∙ ap (λ (xs : List ℕ). xs ++ (c.args.self.now.instant - length c.args.closed.now) ∷ []) (c.in_ok-inner-in-New.ensures.items_if_clones_equal (λ x y h. h)) in
-    answer-same c.args.self.now.program.now c.args.self.now.levels.now c.args.self.now.stratum c.tell_since-in-New.result (leaves_since c.args.self.now.program.now c.args.self.now.instant c.in-New.body c.deref.result.now c.args.closed.now) (leaves_since c.args.self.now.program.now c.args.self.now.instant c.args.node c.args.births.now c.args.closed.now) c.args.store.now c.tell_since-in-New.new.store
+pub tell_since-returns-in_ok-inner-in-New : goal.tell_since-returns-in_ok-inner-in-New
+tell_since-returns-in_ok-inner-in-New t c =
+    let grown : c.list.result.now ≡ c.args.births.now ++ (c.args.self.now.instant - length c.args.closed.now) ∷ [] = c.list.ensures ∙ c.in_ok-inner-in-New.ensures in
+    answer-same c.args.self.now.program.now c.args.self.now.levels.now c.args.self.now.stratum c.tell_since-in-New.result (leaves_since c.args.self.now.program.now c.args.self.now.instant c.in-New.body c.list.result.now c.args.closed.now) (leaves_since c.args.self.now.program.now c.args.self.now.instant c.args.node c.args.births.now c.args.closed.now) c.args.store.now c.tell_since-in-New.new.store
     (new-since c.args.self.now.program.now c.nodes.ensures.program c.args.node c.args.births.now c.requires.closure c.args.self.now.instant c.args.closed.now c.in-Some.first.now c.in-Some.later.now c.in-Some.ensures.cases.0 c.in-New.cell c.in-New.body
-    (node_found c.args.self.now.program.now c.nodes.result.now c.args.node c.index-nodes-node.result c.nodes.ensures.all c.requires.closure.node c.index-nodes-node.is ∙ ap Some c.in-New.is) c.deref.result.now grown)
+    (node_found c.args.self.now.program.now c.nodes.result.now c.args.node c.index-nodes-node.result c.nodes.ensures.all c.requires.closure.node c.index-nodes-node.is ∙ ap Some c.in-New.is) c.list.result.now grown)
     c.tell_since-in-New.ensures
 
 pub tell_since-returns-in-Next : goal.tell_since-returns-in-Next

@@ -1,4 +1,4 @@
-use Rattle.std.proofs.Common.{◌≡◌, ℕ, List, [], ◌∷◌, ◌++◌, Some, sym, ap, ◌∙◌, subst, arith}
+use Rattle.std.proofs.Common.{◌≡◌, [], ◌∷◌, ◌++◌, Some, sym, ap, ◌∙◌, subst, arith}
 use Rattle.agent_core.specs.declared.node.Node.TheVariants as nodes
 use Rattle.agent_core.specs.Names.{IsClosure}
 use Rattle.agent_core.proofs.RestTests.{node_found, own_ask_fits, left_of, right_of, new_body}
@@ -32,7 +32,7 @@ add_node-requires-in-Par t c =
 
 pub add_node-requires-in-New : goal.add_node-requires-in-New
 add_node-requires-in-New t c =
-    let grown : c.deref.result.now ≡ c.args.births.now ++ c.args.self.now.t ∷ [] = c.deref.ensures.value ∙ c.in_ok-push-in-New.ensures.items ∙ ap (λ (xs : List ℕ). xs ++ c.args.self.now.t ∷ []) (c.in_ok-inner-in-New.ensures.items_if_clones_equal (λ x y h. h)) in
+    let grown : c.list.result.now ≡ c.args.births.now ++ c.args.self.now.t ∷ [] = c.list.ensures ∙ c.in_ok-inner-in-New.ensures in
     let part = new_body c.args.self.now.program.now c.nodes.ensures.program c.args.node c.args.births.now c.requires.closure c.in-New.cell c.in-New.body c.args.self.now.t (node_found c.args.self.now.program.now c.nodes.result.now c.args.node c.index-nodes-node.result c.nodes.ensures.all c.requires.closure.node c.index-nodes-node.is ∙ ap Some c.in-New.is) in
     let above = part.above in
     let inside = part.inside in
@@ -55,11 +55,11 @@ returns-in_ok-add_node-in-Par-clause-spoken t c =
     if_ok (λ _. AddsSpoken c.args.self.now.program.now c.args.self.now.t c.in-Par.right c.args.births.now c.add_node.new.names.keys c.add_node-in-Par.new.names.keys) (λ _. AddsSpoken c.args.self.now.program.now c.args.self.now.t c.args.node c.args.births.now c.args.names.now.keys c.add_node-in-Par.new.names.keys)
     c.add_node-in-Par.result (λ _ h. spoken-par c.args.self.now.program.now c.nodes.ensures.program c.args.self.now.t c.args.node c.args.births.now c.in-Par.left c.in-Par.right (node_found c.args.self.now.program.now c.nodes.result.now c.args.node c.index-nodes-node.result c.nodes.ensures.all c.requires.closure.node c.index-nodes-node.is ∙ ap Some c.in-Par.is) c.args.names.now.keys c.add_node.new.names.keys c.add_node-in-Par.new.names.keys c.in_ok-add_node-in-Par.ensures.spoken h) c.add_node-in-Par.ensures.spoken
 
-pub returns-in_ok-push-in-New-clause-spoken : goal.returns-in_ok-push-in-New-clause-spoken
-returns-in_ok-push-in-New-clause-spoken t c =
-    let grown : c.deref.result.now ≡ c.args.births.now ++ c.args.self.now.t ∷ [] = c.deref.ensures.value ∙ c.in_ok-push-in-New.ensures.items ∙ ap (λ (xs : List ℕ). xs ++ c.args.self.now.t ∷ []) (c.in_ok-inner-in-New.ensures.items_if_clones_equal (λ x y h. h)) in
-    if_ok (λ _. AddsSpoken c.args.self.now.program.now c.args.self.now.t c.in-New.body c.deref.result.now c.args.names.now.keys c.add_node-in-New.new.names.keys) (λ _. AddsSpoken c.args.self.now.program.now c.args.self.now.t c.args.node c.args.births.now c.args.names.now.keys c.add_node-in-New.new.names.keys)
-    c.add_node-in-New.result (λ _ h. spoken-new c.args.self.now.program.now c.nodes.ensures.program c.args.self.now.t c.args.node c.args.births.now c.in-New.cell c.in-New.body c.deref.result.now (node_found c.args.self.now.program.now c.nodes.result.now c.args.node c.index-nodes-node.result c.nodes.ensures.all c.requires.closure.node c.index-nodes-node.is ∙ ap Some c.in-New.is) grown c.args.names.now.keys c.add_node-in-New.new.names.keys h) c.add_node-in-New.ensures.spoken
+pub returns-in_ok-inner-in-New-clause-spoken : goal.returns-in_ok-inner-in-New-clause-spoken
+returns-in_ok-inner-in-New-clause-spoken t c =
+    let grown : c.list.result.now ≡ c.args.births.now ++ c.args.self.now.t ∷ [] = c.list.ensures ∙ c.in_ok-inner-in-New.ensures in
+    if_ok (λ _. AddsSpoken c.args.self.now.program.now c.args.self.now.t c.in-New.body c.list.result.now c.args.names.now.keys c.add_node-in-New.new.names.keys) (λ _. AddsSpoken c.args.self.now.program.now c.args.self.now.t c.args.node c.args.births.now c.args.names.now.keys c.add_node-in-New.new.names.keys)
+    c.add_node-in-New.result (λ _ h. spoken-new c.args.self.now.program.now c.nodes.ensures.program c.args.self.now.t c.args.node c.args.births.now c.in-New.cell c.in-New.body c.list.result.now (node_found c.args.self.now.program.now c.nodes.result.now c.args.node c.index-nodes-node.result c.nodes.ensures.all c.requires.closure.node c.index-nodes-node.is ∙ ap Some c.in-New.is) grown c.args.names.now.keys c.add_node-in-New.new.names.keys h) c.add_node-in-New.ensures.spoken
 
 pub returns-in_ok-add_ask-in-Then-clause-spoken : goal.returns-in_ok-add_ask-in-Then-clause-spoken
 returns-in_ok-add_ask-in-Then-clause-spoken t c =
@@ -87,11 +87,11 @@ returns-in_ok-add_node-in-Par-clause-covered t c =
     if_ok (λ _. CoversNode c.args.self.now.program.now c.args.self.now.t c.in-Par.right c.args.births.now c.add_node.new.names.keys c.add_node-in-Par.new.names.keys) (λ _. CoversNode c.args.self.now.program.now c.args.self.now.t c.args.node c.args.births.now c.args.names.now.keys c.add_node-in-Par.new.names.keys)
     c.add_node-in-Par.result (λ _ h. covers-par c.args.self.now.program.now c.args.self.now.t c.nodes.ensures.program c.args.node c.args.births.now c.in-Par.left c.in-Par.right (node_found c.args.self.now.program.now c.nodes.result.now c.args.node c.index-nodes-node.result c.nodes.ensures.all c.requires.closure.node c.index-nodes-node.is ∙ ap Some c.in-Par.is) c.args.names.now.keys c.add_node.new.names.keys c.add_node-in-Par.new.names.keys c.in_ok-add_node-in-Par.ensures.covered h) c.add_node-in-Par.ensures.covered
 
-pub returns-in_ok-push-in-New-clause-covered : goal.returns-in_ok-push-in-New-clause-covered
-returns-in_ok-push-in-New-clause-covered t c =
-    let grown : c.deref.result.now ≡ c.args.births.now ++ c.args.self.now.t ∷ [] = c.deref.ensures.value ∙ c.in_ok-push-in-New.ensures.items ∙ ap (λ (xs : List ℕ). xs ++ c.args.self.now.t ∷ []) (c.in_ok-inner-in-New.ensures.items_if_clones_equal (λ x y h. h)) in
-    if_ok (λ _. CoversNode c.args.self.now.program.now c.args.self.now.t c.in-New.body c.deref.result.now c.args.names.now.keys c.add_node-in-New.new.names.keys) (λ _. CoversNode c.args.self.now.program.now c.args.self.now.t c.args.node c.args.births.now c.args.names.now.keys c.add_node-in-New.new.names.keys)
-    c.add_node-in-New.result (λ _ h. covers-new c.args.self.now.program.now c.args.self.now.t c.nodes.ensures.program c.args.node c.args.births.now c.in-New.cell c.in-New.body c.deref.result.now (node_found c.args.self.now.program.now c.nodes.result.now c.args.node c.index-nodes-node.result c.nodes.ensures.all c.requires.closure.node c.index-nodes-node.is ∙ ap Some c.in-New.is) grown c.args.names.now.keys c.add_node-in-New.new.names.keys h) c.add_node-in-New.ensures.covered
+pub returns-in_ok-inner-in-New-clause-covered : goal.returns-in_ok-inner-in-New-clause-covered
+returns-in_ok-inner-in-New-clause-covered t c =
+    let grown : c.list.result.now ≡ c.args.births.now ++ c.args.self.now.t ∷ [] = c.list.ensures ∙ c.in_ok-inner-in-New.ensures in
+    if_ok (λ _. CoversNode c.args.self.now.program.now c.args.self.now.t c.in-New.body c.list.result.now c.args.names.now.keys c.add_node-in-New.new.names.keys) (λ _. CoversNode c.args.self.now.program.now c.args.self.now.t c.args.node c.args.births.now c.args.names.now.keys c.add_node-in-New.new.names.keys)
+    c.add_node-in-New.result (λ _ h. covers-new c.args.self.now.program.now c.args.self.now.t c.nodes.ensures.program c.args.node c.args.births.now c.in-New.cell c.in-New.body c.list.result.now (node_found c.args.self.now.program.now c.nodes.result.now c.args.node c.index-nodes-node.result c.nodes.ensures.all c.requires.closure.node c.index-nodes-node.is ∙ ap Some c.in-New.is) grown c.args.names.now.keys c.add_node-in-New.new.names.keys h) c.add_node-in-New.ensures.covered
 
 pub returns-in_ok-add_ask-in-Then-clause-covered : goal.returns-in_ok-add_ask-in-Then-clause-covered
 returns-in_ok-add_ask-in-Then-clause-covered t c =

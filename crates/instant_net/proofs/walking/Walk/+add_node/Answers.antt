@@ -1,4 +1,4 @@
-use Rattle.std.proofs.Common.{◌≡◌, ℕ, List, [], ◌∷◌, ◌++◌, length, Some, sym, ap, ◌∙◌, subst, arith}
+use Rattle.std.proofs.Common.{◌≡◌, [], ◌∷◌, ◌++◌, length, Some, sym, ap, ◌∙◌, subst, arith}
 use Rattle.agent_core.specs.declared.node.Node.TheVariants as nodes
 use Rattle.agent_core.specs.Agents.{agent_at}
 use Rattle.agent_core.specs.Names.{IsClosure}
@@ -60,7 +60,7 @@ add_node-requires-in-Par-2 t c =
 
 pub add_node-requires-in-New : goal.add_node-requires-in-New
 add_node-requires-in-New t c =
-    let grown : c.deref.result.now ≡ c.args.births.now ++ c.args.self.now.t ∷ [] = c.deref.ensures.value ∙ c.in_ok-push-in-New.ensures.items ∙ ap (λ (xs : List ℕ). xs ++ c.args.self.now.t ∷ []) (c.in_ok-inner-in-New.ensures.items_if_clones_equal (λ x y h. h)) in
+    let grown : c.list.result.now ≡ c.args.births.now ++ c.args.self.now.t ∷ [] = c.list.ensures ∙ c.in_ok-inner-in-New.ensures in
     let part = new_body c.args.self.now.program.now c.nodes.ensures.program c.args.node c.args.births.now c.requires.closure c.in-New.cell c.in-New.body c.args.self.now.t (node_found c.args.self.now.program.now c.nodes.result.now c.args.node c.index-nodes-node.result c.nodes.ensures.all c.requires.closure.node c.index-nodes-node.is ∙ ap Some c.in-New.is) in
     let above = part.above in
     let inside = part.inside in
@@ -121,11 +121,11 @@ returns-in_ok-add_node-in-Par t c =
     c.args.parts.now.guards.items c.add_node-in-Par.new.parts.guards.items c.add_node-in-Par-2.new.parts.guards.items c.args.parts.now.leaves.items c.add_node-in-Par.new.parts.leaves.items c.add_node-in-Par-2.new.parts.leaves.items c.in_ok-add_node-in-Par.ensures h)
     c.add_node-in-Par-2.ensures
 
-pub returns-in_ok-push-in-New : goal.returns-in_ok-push-in-New
-returns-in_ok-push-in-New t c =
-    let grown : c.deref.result.now ≡ c.args.births.now ++ c.args.self.now.t ∷ [] = c.deref.ensures.value ∙ c.in_ok-push-in-New.ensures.items ∙ ap (λ (xs : List ℕ). xs ++ c.args.self.now.t ∷ []) (c.in_ok-inner-in-New.ensures.items_if_clones_equal (λ x y h. h)) in
-    if_ok (λ _. Adds c.args.self.now.program.now c.args.self.now.cells.now c.args.self.now.t c.in-New.body c.deref.result.now c.args.last c.args.parts.now.guards.items c.add_node-in-New.new.parts.guards.items c.args.parts.now.leaves.items c.add_node-in-New.new.parts.leaves.items)
+pub returns-in_ok-inner-in-New : goal.returns-in_ok-inner-in-New
+returns-in_ok-inner-in-New t c =
+    let grown : c.list.result.now ≡ c.args.births.now ++ c.args.self.now.t ∷ [] = c.list.ensures ∙ c.in_ok-inner-in-New.ensures in
+    if_ok (λ _. Adds c.args.self.now.program.now c.args.self.now.cells.now c.args.self.now.t c.in-New.body c.list.result.now c.args.last c.args.parts.now.guards.items c.add_node-in-New.new.parts.guards.items c.args.parts.now.leaves.items c.add_node-in-New.new.parts.leaves.items)
     (λ _. Adds c.args.self.now.program.now c.args.self.now.cells.now c.args.self.now.t c.args.node c.args.births.now c.args.last c.args.parts.now.guards.items c.add_node-in-New.new.parts.guards.items c.args.parts.now.leaves.items c.add_node-in-New.new.parts.leaves.items)
     c.add_node-in-New.result
-    (λ _ h. adds-new c.args.self.now.program.now c.nodes.ensures.program c.args.self.now.cells.now c.args.self.now.t c.args.node c.args.births.now c.args.last c.in-New.cell c.in-New.body c.deref.result.now (node_found c.args.self.now.program.now c.nodes.result.now c.args.node c.index-nodes-node.result c.nodes.ensures.all c.requires.closure.node c.index-nodes-node.is ∙ ap Some c.in-New.is) grown c.args.parts.now.guards.items c.add_node-in-New.new.parts.guards.items c.args.parts.now.leaves.items c.add_node-in-New.new.parts.leaves.items h)
+    (λ _ h. adds-new c.args.self.now.program.now c.nodes.ensures.program c.args.self.now.cells.now c.args.self.now.t c.args.node c.args.births.now c.args.last c.in-New.cell c.in-New.body c.list.result.now (node_found c.args.self.now.program.now c.nodes.result.now c.args.node c.index-nodes-node.result c.nodes.ensures.all c.requires.closure.node c.index-nodes-node.is ∙ ap Some c.in-New.is) grown c.args.parts.now.guards.items c.add_node-in-New.new.parts.guards.items c.args.parts.now.leaves.items c.add_node-in-New.new.parts.leaves.items h)
     c.add_node-in-New.ensures

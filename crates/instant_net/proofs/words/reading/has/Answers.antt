@@ -9,7 +9,9 @@ pub value-requires-clause-cell : goal.value-requires-clause-cell
 value-requires-clause-cell c = cell_there c.args.net.now.cells c.args.atom c.requires.fits
 
 pub entails-requires : goal.entails-requires
-entails-requires c = of_one_kind c.args.net.now.cells c.args.atom c.value.result c.requires.fits (c.value.ensures.of_cell c.requires.fits.0 c.requires.fits.1)
+entails-requires c =
+    let is = c.value.ensures.of_cell c.requires.fits.0 c.requires.fits.1 in
+    record { kinds = of_one_kind c.args.net.now.cells c.args.atom c.value.result c.requires.fits is; proper = is.proper }
 
 pub returns : goal.returns
 returns c =
