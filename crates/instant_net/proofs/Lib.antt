@@ -5,6 +5,7 @@ pub mod Grown
 pub mod Atoms
 pub mod NodeLeaves
 pub mod NodeParts
+pub mod Linking
 pub mod Adding
 pub mod Covering
 pub mod SpokenNames

@@ -16,7 +16,7 @@ use Rattle.instant_net.specs.NamedLeaves.{Leaf, names_of}
 use Rattle.instant_net.specs.Nets.{Flat, named_leaf, net_leaves, LeafIsWhole}
 use Rattle.instant_net.specs.Opened.{IsCellOf, IsNetOf, IsNet, strata_of}
 use Rattle.instant_net.specs.Programs.{root_leaves, root_occurrences}
-use Rattle.instant_net.specs.Walks.{AreNamed, IsNamed, Grown}
+use Rattle.instant_net.specs.Walks.{AreNamed, IsNamed, Grown, AreListedFor}
 use Rattle.instant_net.specs.Collecting.{AreCellsFor}
 use Rattle.instant_net.proofs.Counts.{length-map}
 use Rattle.instant_net.proofs.Grown.{grown-all, grown-guard, grown-leaf, grown-over}
@@ -33,9 +33,12 @@ cells-named p table ls cells locals h all = record {
 }
 
 module _ (p : CoreProgram) (table : List ℕ) (rs : List Closure) (t strata : ℕ) (cells : List NetCell) (guards : List NetGuard) (leaves : List NetLeaf) (is : IsWellFormed p) (own : AreClosures p rs) (long : length table ≡ length p.cells)
-    (for_them : AreCellsFor p table (root_leaves p rs t) cells) (h : Grown cells None [] 0 0 guards leaves (root_occurrences p rs t) (root_leaves p rs t)) (top : strata ≡ strata_of table) where
+    (for_them : AreCellsFor p table (root_leaves p rs t) cells) (listed : AreListedFor p cells t rs guards leaves) (top : strata ≡ strata_of table) where
   abbrev net : Flat
   net = record { instant = t; strata = strata; cells = cells; guards = guards; leaves = leaves }
+
+  h : Grown cells None [] 0 0 guards leaves (root_occurrences p rs t) (root_leaves p rs t)
+  h = listed.grown
 
   same : net_leaves net ≡ root_leaves p rs t
   same = (grown-all cells h).leaves
@@ -60,6 +63,7 @@ module _ (p : CoreProgram) (table : List ℕ) (rs : List Closure) (t strata : �
     };
     leaves = same;
     guards = (grown-all cells h).guards;
+    links = listed.linked;
     over = λ k g at i x s. grown-over cells guards h k g at i x s;
   }
 

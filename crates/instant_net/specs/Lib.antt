@@ -4,6 +4,7 @@ pub mod Nets
 pub mod Readers
 pub mod Programs
 pub mod Words
+pub mod Links
 pub mod Opened
 pub mod Outputs
 pub mod Locals

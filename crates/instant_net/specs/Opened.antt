@@ -17,6 +17,7 @@ use Rattle.instant_net.specs.declared.parts.NetLeaf.{NetLeaf}
 use Rattle.instant_net.specs.NamedLeaves.{names_of}
 use Rattle.instant_net.specs.Nets.{Flat, net_leaves, net_occurrences, IsAtOrAbove, IsWhole}
 use Rattle.instant_net.specs.Programs.{root_leaves, root_occurrences}
+use Rattle.instant_net.specs.Links.{AreLinkedAsRoots}
 use Rattle.instant_net.specs.Words.{AreLaidOut, hows}
 
 -- the cell's kind, domain and stratum are those of its name
@@ -64,6 +65,7 @@ pub record IsNetOf (p : CoreProgram) (table : List ℕ) (rs : List Closure) (t :
   pub cells : HasCells p table net
   pub leaves : net_leaves net ≡ root_leaves p rs t
   pub guards : net_occurrences net ≡ root_occurrences p rs t
+  pub links : AreLinkedAsRoots p rs net.guards net.leaves
   pub over : (k : ℕ) (g : NetGuard) → slice_get net.guards k ≡ Some g → IsOver net k g
 
 -- all numbers of parts fit into 32 bits, and there are at most as many leaves as an instant may have

@@ -1,5 +1,5 @@
 -- Guards and leaves as a walk over the nodes of an instant lists them, and what they say by name. This project's own.
-use Rattle.std.specs.Prelude.{◌≡◌, ℕ, suc, ◌+◌, ◌<◌, Bool, All, length, List, [], ◌∷◌, ◌++◌, map, set, slice_get, Option, Some}
+use Rattle.std.specs.Prelude.{◌≡◌, ℕ, suc, ◌+◌, ◌<◌, Bool, All, length, List, [], ◌∷◌, ◌++◌, map, set, slice_get, Option, None, Some}
 use Rattle.token_system.specs.declared.cell.Token.{Token}
 use Rattle.token_system.specs.declared.name.CellName.{CellName}
 use Rattle.token_system.specs.declared.name.CellName.TheVariants.{Declared}
@@ -7,6 +7,7 @@ use Rattle.agent_core.specs.Agents.{Constraint, agent_at}
 use Rattle.agent_core.specs.Programs.{CoreProgram}
 use Rattle.agent_core.specs.Leaves as core
 use Rattle.agent_core.specs.declared.node.CellDecl.{CellDecl}
+use Rattle.agent_core.specs.declared.node.Closure.{Closure}
 use Rattle.agent_core.specs.Names.{Names}
 use Rattle.instant_net.specs.declared.locals.Local.{Local}
 use Rattle.instant_net.specs.declared.parts.Atom.{Atom}
@@ -16,9 +17,10 @@ use Rattle.instant_net.specs.declared.parts.NetLeaf.{NetLeaf}
 use Rattle.instant_net.specs.Locals.{AreLocalsOf}
 use Rattle.instant_net.specs.NamedLeaves.{Guard, Leaf}
 use Rattle.instant_net.specs.Occurrences.{Occurrence, occurrences_of}
+use Rattle.instant_net.specs.Links.{AreLinked, AreLinkedAsRoots}
 use Rattle.instant_net.specs.Opened.{AreInOrder}
 use Rattle.instant_net.specs.Nets.{AtomFits, named_at, named, named_guard, named_kind, atoms_of}
-use Rattle.instant_net.specs.Programs.{token_named, constraint_named, guard_named, leaf_named, occurrence_named}
+use Rattle.instant_net.specs.Programs.{token_named, constraint_named, guard_named, leaf_named, occurrence_named, root_leaves, root_occurrences}
 
 -- the cell is the one that its name says
 pub record IsNamed (p : CoreProgram) (c : NetCell) : Type 0 where
@@ -84,3 +86,9 @@ pub record Adds (p : CoreProgram) (cells : List NetCell) (t n : ℕ) (b : List �
   pub grown : (path : List core.Guard)
       → Grown cells last (map (guard_named p) path) (length guards) (length leaves) more_guards more_leaves
       (map (occurrence_named p) (occurrences_of t (agent_at p.nodes n) b path)) (map (leaf_named p) (core.leaves_of t (agent_at p.nodes n) n b path))
+  pub linked : AreLinked (agent_at p.nodes n) last (length guards) (length leaves) more_guards more_leaves
+
+-- guards and leaves of these roots
+pub record AreListedFor (p : CoreProgram) (cells : List NetCell) (t : ℕ) (rs : List Closure) (guards : List NetGuard) (leaves : List NetLeaf) : Type 0 where
+  pub grown : Grown cells None [] 0 0 guards leaves (root_occurrences p rs t) (root_leaves p rs t)
+  pub linked : AreLinkedAsRoots p rs guards leaves

@@ -1,5 +1,5 @@
 //! The guards and leaves of an instant, by a walk over the nodes of its roots.
-ghost use Rattle.std.specs.Prelude.{◌≡◌, ◌<◌, ◌++◌, ◌∷◌, [], Contains, IfOk, length, None};
+ghost use Rattle.std.specs.Prelude.{◌≡◌, ◌<◌, ◌++◌, ◌∷◌, [], Contains, IfOk, length};
 ghost use Rattle.token_system.specs.Names.{name_cmp};
 ghost use Rattle.token_system.specs.declared.name.CellName.TheVariants.{Local as LocalName};
 ghost use Rattle.agent_core.specs.Agents.{agent_at};
@@ -10,8 +10,7 @@ ghost use Rattle.instant_net.specs.declared.parts.NetGuard.{NetGuard as GuardVal
 ghost use Rattle.instant_net.specs.Opened.{AreInOrder};
 ghost use Rattle.instant_net.specs.Collecting.{cell_names};
 ghost use Rattle.instant_net.specs.Covering.{TokenCovered, AskCovered, AgentCovered, RootsCovered};
-ghost use Rattle.instant_net.specs.Programs.{root_leaves, root_occurrences};
-ghost use Rattle.instant_net.specs.Walks.{AreNamed, IsPlaceOf, IsAtomOf, AreAtomsOf, IsBegun, IsEnded, Grown, Adds};
+ghost use Rattle.instant_net.specs.Walks.{AreNamed, IsPlaceOf, IsAtomOf, AreAtomsOf, IsBegun, IsEnded, Adds, AreListedFor};
 
 use crate::locals::{Local, local_of};
 use crate::numbers::number_of;
@@ -213,7 +212,7 @@ pub(crate) fn net_parts(
     requires named { AreNamed program.now locals.now cells.now }
     requires closures { AreClosures program.now roots.now }
     requires covered { RootsCovered program.now t (cell_names cells.now) roots.now }
-    ensures { IfOk result (λ parts. Grown cells.now None [] 0 0 parts.guards.items parts.leaves.items (root_occurrences program.now roots.now t) (root_leaves program.now roots.now t)) }
+    ensures { IfOk result (λ parts. AreListedFor program.now cells.now t roots.now parts.guards.items parts.leaves.items) }
 {
     let walk = Walk {
         alloc,
