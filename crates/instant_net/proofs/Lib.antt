@@ -28,3 +28,4 @@ pub mod AskWalks
 pub mod PathWalks
 pub mod KeptValues
 pub mod Openings
+pub mod OneNet

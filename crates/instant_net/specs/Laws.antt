@@ -29,3 +29,8 @@ abbrev pub NetsHaveRootOutputs : Type 0
 NetsHaveRootOutputs =
     (p : CoreProgram) (table : List ℕ) (rs : List Closure) (t : ℕ) (net : Flat) → IsNetOf p table rs t net
     → (i v : StoreMap) → IsInput p i → IsOutput net i v ↔ IsOutputOf p rs t i v
+
+-- roots have one net at an instant
+abbrev pub RootsHaveOneNet : Type 0
+RootsHaveOneNet =
+    (p : CoreProgram) (table : List ℕ) (rs : List Closure) (t : ℕ) (net net' : Flat) → IsNetOf p table rs t net → IsNetOf p table rs t net' → net ≡ net'

@@ -13,7 +13,7 @@ mod parts;
 mod walking;
 mod words;
 
-pub use laws::{net_outputs_law, net_rests_law, stratified_net_law};
+pub use laws::{net_outputs_law, net_rests_law, one_net_law, stratified_net_law};
 pub use net::Net;
 pub use opening::{NetFault, open_net};
 pub use parts::Atom;
