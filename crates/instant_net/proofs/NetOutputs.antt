@@ -232,7 +232,7 @@ module _ (p : CoreProgram) (table : List ℕ) (rs : List Closure) (t : ℕ) (net
   abbrev rest_here : StoreMap → StoreMap → Bool
   rest_here u v = leaves_rest (net_leaves net) u v
 
-  rests-same : (u v : StoreMap) → core.Below p u v → roots_rest p rs t u v ≡ rest_here u v
+  pub rests-same : (u v : StoreMap) → core.Below p u v → roots_rest p rs t u v ≡ rest_here u v
   rests-same u v below = closures_leaves p of.program rs (all_each (IsOwn p) rs of.roots) t u v below ∙ sym (net-rests p table rs t net of u v)
 
   roots-output : (i v : StoreMap) → IsOutput net i v → IsOutputOf p rs t i v

@@ -1,5 +1,5 @@
 //! Laws of nets. Each is a function that computes nothing, and its contract is the law.
-ghost use Rattle.instant_net.specs.Laws.{NetsAreStratified, NetsHaveRootOutputs, NetsRestByRoots, RootsHaveOneNet};
+ghost use Rattle.instant_net.specs.Laws.{NetsAreStratified, NetsHaveRootOutputs, NetsRestByLeaves, NetsRestByRoots, RootsHaveOneNet};
 
 /// The net of any roots is stratified where the table stratifies the program: each told cell has at least the stratum
 /// of each cell that is asked for above it, and a greater one where an else asks.
@@ -7,9 +7,11 @@ pub fn stratified_net_law()
     ensures { NetsAreStratified }
 {}
 
-/// Stores rest for the leaves of a net exactly where they rest for the leaves of its roots.
+/// Of two stores, one below the other, the leaves of a net rest under them exactly where each of its roots does. The
+/// leaves of the net and those of its roots rest under the same stores, whether one is below the other or not.
 pub fn net_rests_law()
-    ensures { NetsRestByRoots }
+    ensures roots { NetsRestByRoots }
+    ensures leaves { NetsRestByLeaves }
 {}
 
 /// The outputs of a net on an input over the declared cells are those of its roots, whether the program is stratified
