@@ -6,6 +6,7 @@ pub mod Atoms
 pub mod NodeLeaves
 pub mod NodeParts
 pub mod Linking
+pub mod Rooms
 pub mod Adding
 pub mod Covering
 pub mod SpokenNames

@@ -80,7 +80,7 @@ module _ (p : CoreProgram) where
       let y = root_guards-count rs (k + guard_count (tree r)) (l + leaf_count (tree r)) in
       omega (arith, length-append (guard_links (tree r) None k l) (root_guard_links p rs (k + guard_count (tree r)) (l + leaf_count (tree r))))
 
-  root_leaves-count : (rs : List Closure) (k : ℕ) → length (root_leaf_links p rs k) ≡ leaves_in p rs
+  pub root_leaves-count : (rs : List Closure) (k : ℕ) → length (root_leaf_links p rs k) ≡ leaves_in p rs
   root_leaves-count [] k = refl
   root_leaves-count (r ∷ rs) k =
       let x = leaf_links-count (tree r) None k in

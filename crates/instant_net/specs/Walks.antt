@@ -17,10 +17,10 @@ use Rattle.instant_net.specs.declared.parts.NetLeaf.{NetLeaf}
 use Rattle.instant_net.specs.Locals.{AreLocalsOf}
 use Rattle.instant_net.specs.NamedLeaves.{Guard, Leaf}
 use Rattle.instant_net.specs.Occurrences.{Occurrence, occurrences_of}
-use Rattle.instant_net.specs.Links.{AreLinked, AreLinkedAsRoots}
+use Rattle.instant_net.specs.Links.{guard_count, AreLinked, AreLinkedAsRoots}
 use Rattle.instant_net.specs.Opened.{AreInOrder}
 use Rattle.instant_net.specs.Nets.{AtomFits, named_at, named, named_guard, named_kind, atoms_of}
-use Rattle.instant_net.specs.Programs.{token_named, constraint_named, guard_named, leaf_named, occurrence_named, root_leaves, root_occurrences}
+use Rattle.instant_net.specs.Programs.{token_named, constraint_named, guard_named, leaf_named, occurrence_named, root_leaves, root_occurrences, leaf_count}
 
 -- the cell is the one that its name says
 pub record IsNamed (p : CoreProgram) (c : NetCell) : Type 0 where
@@ -76,6 +76,11 @@ pub data Grown (cells : List NetCell) : Option ℕ → List Guard → ℕ → �
       (gs' : List NetGuard) (ls' : List NetLeaf) (os' : List (Occurrence Guard)) (out' : List Leaf)
       → Grown cells last path k l gs ls os out → Grown cells last path (k + length gs) (l + length ls) gs' ls' os' out'
       → Grown cells last path k l (gs ++ gs') (ls ++ ls') (os ++ os') (out ++ out')
+
+-- behind these guards and leaves those of node n can be numbered in 32 bits
+pub record HasRoomFor (p : CoreProgram) (n : ℕ) (gs : List NetGuard) (ls : List NetLeaf) : Type 0 where
+  pub guards : length gs + guard_count (agent_at p.nodes n) < 4294967296
+  pub leaves : length ls + leaf_count (agent_at p.nodes n) < 4294967296
 
 -- guards and leaves after those of node n were added, which is started at t under births b and stands below the guard `last`
 pub record Adds (p : CoreProgram) (cells : List NetCell) (t n : ℕ) (b : List ℕ) (last : Option ℕ) (guards guards' : List NetGuard) (leaves leaves' : List NetLeaf) : Type 0 where

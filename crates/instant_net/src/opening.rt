@@ -12,7 +12,6 @@ use crate::collecting::net_cells;
 use crate::counting::count_leaves;
 use crate::locals::locals_of;
 use crate::net::Net;
-use crate::numbers::number_of;
 use crate::walking::net_parts;
 use agent_core::{Closure, Levels, Program};
 use std::alloc::Global;
@@ -56,13 +55,13 @@ fn net_of(
 ) -> Result<Net, Memory>
     requires levels { length levels.now ≡ length program.now.cells }
     requires closures { AreClosures program.now roots.now }
-    requires few { length (root_leaves program.now roots.now t) ≤ 65536 }
+    requires few { length roots.now ≤ 131072 }
+    requires few_leaves { length (root_leaves program.now roots.now t) ≤ 65536 }
     ensures { IfOk result (IsNetOf program.now levels.now roots.now t) }
 {
     let locals = locals_of(alloc, program)?;
     let cells = net_cells(alloc, program, &locals, levels, roots, t)?;
     let parts = net_parts(alloc, program, &locals, roots, t, &cells)?;
-    number_of(parts.guards.len())?;
     Ok(Net::make(t, strata_of(levels), cells, parts.guards, parts.leaves))
 }
 

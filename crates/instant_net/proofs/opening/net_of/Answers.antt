@@ -6,6 +6,7 @@ use Rattle.instant_net.specs.Programs.{root_leaves}
 use Rattle.instant_net.specs.Collecting.{cell_names}
 use Rattle.instant_net.specs.Covering.{RootsCovered}
 use Rattle.instant_net.specs.Walks.{AreNamed, AreListedFor}
+use Rattle.instant_net.proofs.Rooms.{guards-few}
 use Rattle.instant_net.proofs.NetsMade.{cells-named, net-is, net-fits}
 use Rattle.instant_net.proofs.opening.net_of.Goals as goal
 
@@ -24,7 +25,8 @@ make-requires c =
     let listed : AreListedFor c.args.program.now c.in_ok-cells.cells.items c.args.t c.args.roots.now c.in_ok-parts.parts.guards.items c.in_ok-parts.parts.leaves.items =
     subst (λ (cells : List NetCell). AreListedFor c.args.program.now cells c.args.t c.args.roots.now c.in_ok-parts.parts.guards.items c.in_ok-parts.parts.leaves.items) c.deref-3.ensures.value c.in_ok-parts.ensures in
     net-fits c.args.program.now c.args.levels.now c.args.roots.now c.args.t c.strata_of.result c.in_ok-cells.cells.items c.in_ok-parts.parts.guards.items c.in_ok-parts.parts.leaves.items c.in_ok-cells.ensures.cells.program c.requires.closures c.requires.levels
-    c.in_ok-cells.ensures.cells listed c.strata_of.ensures c.requires.few (let n = c.len.ensures in let m = c.in_ok-number_of.ensures.fits in omega arith)
+    c.in_ok-cells.ensures.cells listed c.strata_of.ensures c.requires.few_leaves
+    (guards-few c.args.program.now c.in_ok-cells.ensures.cells.program c.args.roots.now c.in_ok-parts.parts.guards.items c.in_ok-parts.parts.leaves.items c.requires.closures c.requires.few listed.linked)
 
 pub returns : goal.returns
 returns c =
