@@ -13,5 +13,6 @@ pub mod Outputs
 pub mod Closures
 pub mod Leaves
 pub mod Strata
+pub mod StrataCounts
 pub mod RootOutputs
 pub mod Worked

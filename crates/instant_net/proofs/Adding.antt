@@ -16,10 +16,10 @@ use Rattle.instant_net.specs.declared.parts.NetGuard.{NetGuard}
 use Rattle.instant_net.specs.declared.parts.NetLeaf.{NetLeaf}
 use Rattle.instant_net.specs.declared.parts.LeafKind.{LeafKind}
 use Rattle.instant_net.specs.declared.parts.LeafKind.TheVariants as kinds
-use Rattle.instant_net.specs.NamedLeaves.{Guard, Kind, Tells, StartsHence, StartsNext, Leaf}
-use Rattle.instant_net.specs.Nets.{AtomFits, named, named_guard, named_kind, atoms_of}
+use Rattle.instant_net.specs.NamedLeaves.{NamedGuard, Kind, Tells, StartsHence, StartsNext, NamedLeaf}
+use Rattle.instant_net.specs.Nets.{AtomFits, named_atoms, named_guard, named_kind, atoms_of}
 use Rattle.instant_net.specs.Occurrences.{Occurrence, occurrence, occurrences_of}
-use Rattle.instant_net.specs.Programs.{constraint_named, guard_named, kind_named, leaf_named, occurrence_named, root_leaves, root_occurrences, leaf_count}
+use Rattle.instant_net.specs.Programs.{constraint_named, guard_named, kind_named, leaf_named, occurrence_named, root_leaves, root_occurrences, agent_leaf_count}
 use Rattle.instant_net.specs.Walks.{AreAtomsOf, IsBegun, IsEnded, Grown, none, leaf, under, beside, Adds, AreListedFor}
 use Rattle.instant_net.specs.Links.{guard_link, guard_links, leaf_links, links_of, AreLinked, AreLinkedAsRoots}
 use Rattle.instant_net.proofs.Lists.{set-between, get-between}
@@ -27,14 +27,14 @@ use Rattle.instant_net.proofs.Linking.{linked-leaves, linked-par, linked-root}
 use Rattle.instant_net.proofs.NodeLeaves.{below, agent-is, body-behind, then-below, else-below, new-below, par-below}
 use Rattle.std.proofs.lemmas.List.Elements.{All-nil}
 
-same-grown : {cells : List NetCell} {last last' : Option ℕ} {path path' : List Guard} {k k' l l' : ℕ} {gs : List NetGuard} {ls : List NetLeaf} {os os' : List (Occurrence Guard)} {out out' : List Leaf}
+same-grown : {cells : List NetCell} {last last' : Option ℕ} {path path' : List NamedGuard} {k k' l l' : ℕ} {gs : List NetGuard} {ls : List NetLeaf} {os os' : List (Occurrence NamedGuard)} {out out' : List NamedLeaf}
     → last ≡ last' → path ≡ path' → k ≡ k' → l ≡ l' → os ≡ os' → out ≡ out' → Grown cells last path k l gs ls os out → Grown cells last' path' k' l' gs ls os' out'
 same-grown {cells} {last} {last'} {path} {path'} {k} {k'} {l} {l'} {gs} {ls} {os} {os'} {out} {out'} a b c d e f h =
-    subst (λ (x : List Leaf). Grown cells last' path' k' l' gs ls os' x) f
-    (subst (λ (x : List (Occurrence Guard)). Grown cells last' path' k' l' gs ls x out) e
+    subst (λ (x : List NamedLeaf). Grown cells last' path' k' l' gs ls os' x) f
+    (subst (λ (x : List (Occurrence NamedGuard)). Grown cells last' path' k' l' gs ls x out) e
     (subst (λ (x : ℕ). Grown cells last' path' k' x gs ls os out) d
     (subst (λ (x : ℕ). Grown cells last' path' x l gs ls os out) c
-    (subst (λ (x : List Guard). Grown cells last' x k l gs ls os out) b
+    (subst (λ (x : List NamedGuard). Grown cells last' x k l gs ls os out) b
     (subst (λ (x : Option ℕ). Grown cells x path k l gs ls os out) a h)))))
 
 length-more : {X : Type 0} (xs ys : List X) (x : X) → ys ≡ xs ++ x ∷ [] → length ys ≡ suc (length xs)
@@ -57,7 +57,7 @@ module _ (p : CoreProgram) (is : IsWellFormed p) (cells : List NetCell) (t n : �
         guards_are = eg ∙ sym (append-nil gs);
         leaves_are = el;
         grown = λ path.
-            let way : List Guard = map (guard_named p) path in
+            let way : List NamedGuard = map (guard_named p) path in
             let silent : [] ≡ map (occurrence_named p) (occurrences_of t (agent_at p.nodes n) b path) =
             ap (map (occurrence_named p)) (sym (quiet path)) ∙ ap (λ (y : Agent). map (occurrence_named p) (occurrences_of t y b path)) (sym is_leaf) in
             let own : record { kind = named_kind cells kind; path = way } ∷ [] ≡ map (leaf_named p) (below p is n t b path n) =
@@ -112,11 +112,11 @@ module _ (p : CoreProgram) (is : IsWellFormed p) (cells : List NetCell) (t n : �
     guards_are = h'.guards_are ∙ ap (λ xs. xs ++ h'.more_guards) h.guards_are ∙ append_assoc gs h.more_guards h'.more_guards;
     leaves_are = h'.leaves_are ∙ ap (λ xs. xs ++ h'.more_leaves) h.leaves_are ∙ append_assoc ls h.more_leaves h'.more_leaves;
     grown = λ path.
-        let first : List Leaf = map (leaf_named p) (below p is n t b path l) in
-        let second : List Leaf = map (leaf_named p) (below p is n t b path r) in
+        let first : List NamedLeaf = map (leaf_named p) (below p is n t b path l) in
+        let second : List NamedLeaf = map (leaf_named p) (below p is n t b path r) in
         let asks : List (Occurrence core.Guard) = occurrences_of t (agent_at p.nodes l) b path in
         let more_asks : List (Occurrence core.Guard) = occurrences_of t (agent_at p.nodes r) b path in
-        let way : List Guard = map (guard_named p) path in
+        let way : List NamedGuard = map (guard_named p) path in
         same-grown refl refl refl refl (sym (map-append (occurrence_named p) asks more_asks) ∙ ap (map (occurrence_named p)) (sym (inside (nodes.Par l r) found path)))
         (sym (map-append (leaf_named p) (below p is n t b path l) (below p is n t b path r)) ∙ ap (map (leaf_named p)) (sym (par-below p is n t b path l r found)))
         (beside last way (length gs) (length ls) h.more_guards h.more_leaves (map (occurrence_named p) asks) first h'.more_guards h'.more_leaves (map (occurrence_named p) more_asks) second (h.grown path)
@@ -128,20 +128,20 @@ module _ (p : CoreProgram) (is : IsWellFormed p) (cells : List NetCell) (t n : �
   }
 
   -- a guard, and what is below it
-  adds-guard : (strict : Bool) (c : Constraint) (mk : core.Guard) → guard_named p mk ≡ record { strict = strict; ask = constraint_named p b c } → (m : ℕ) → ((path : List core.Guard) → below p is n t b path n ≡ below p is n t b (path ++ mk ∷ []) m)
+  adds-guard : (negative : Bool) (c : Constraint) (mk : core.Guard) → guard_named p mk ≡ record { negative = negative; ask = constraint_named p b c } → (m : ℕ) → ((path : List core.Guard) → below p is n t b path n ≡ below p is n t b (path ++ mk ∷ []) m)
       → ((path : List core.Guard) → occurrences_of t (agent_at p.nodes n) b path ≡ occurrence mk path ∷ occurrences_of t (agent_at p.nodes m) b (path ++ mk ∷ []))
-      → ((k l : ℕ) → guard_links (agent_at p.nodes n) last k l ≡ guard_link last l (leaf_count (agent_at p.nodes m)) ∷ guard_links (agent_at p.nodes m) (Some k) (suc k) l) → ((k : ℕ) → leaf_links (agent_at p.nodes n) last k ≡ leaf_links (agent_at p.nodes m) (Some k) (suc k))
+      → ((k l : ℕ) → guard_links (agent_at p.nodes n) last k l ≡ guard_link last l (agent_leaf_count (agent_at p.nodes m)) ∷ guard_links (agent_at p.nodes m) (Some k) (suc k) l) → ((k : ℕ) → leaf_links (agent_at p.nodes n) last k ≡ leaf_links (agent_at p.nodes m) (Some k) (suc k))
       → (ask : List Atom) → AreAtomsOf p cells b c ask → (k : ℕ) (gs gs' gs'' gs''' : List NetGuard) (ls ls' ls'' ls''' : List NetLeaf) (g : NetGuard)
-      → k ≡ length gs → gs' ≡ gs ++ g ∷ [] → IsBegun strict ask last (length ls) g → ls' ≡ ls → Adds p cells t m b (Some k) gs' gs'' ls' ls'' → IsEnded gs'' gs''' k (length ls'') → ls''' ≡ ls''
+      → k ≡ length gs → gs' ≡ gs ++ g ∷ [] → IsBegun negative ask last (length ls) g → ls' ≡ ls → Adds p cells t m b (Some k) gs' gs'' ls' ls'' → IsEnded gs'' gs''' k (length ls'') → ls''' ≡ ls''
       → Adds p cells t n b last gs gs''' ls ls'''
-  adds-guard strict c mk called m same within own_link leaf_link ask are k gs gs' gs'' gs''' ls ls' ls'' ls''' g ek eg begun el h ended el' =
+  adds-guard negative c mk called m same within own_link leaf_link ask are k gs gs' gs'' gs''' ls ls' ls'' ls''' g ek eg begun el h ended el' =
       let whole : gs'' ≡ (gs ++ g ∷ []) ++ h.more_guards = h.guards_are ∙ ap (λ xs. xs ++ h.more_guards) eg in
       let at : slice_get gs'' k ≡ Some g = ap (λ xs. slice_get xs k) whole ∙ ap (slice_get ((gs ++ g ∷ []) ++ h.more_guards)) ek ∙ get-between gs h.more_guards g in
       let one : ended.one ≡ g = let s = ended.stands in cc in
       let g' : NetGuard = record g { past = length ls'' } in
-      let ask_is : named cells g.ask ≡ constraint_named p b c = ap (named cells) begun.ask_is ∙ are.same in
+      let ask_is : named_atoms cells g.ask ≡ constraint_named p b c = ap (named_atoms cells) begun.ask_is ∙ are.same in
       let call : guard_named p mk ≡ named_guard cells g' =
-      called ∙ ap (λ (s : Bool). record { strict = s; ask = constraint_named p b c }) (sym begun.strict_is) ∙ ap (λ xs. record { strict = g.strict; ask = xs }) (sym ask_is) in
+      called ∙ ap (λ (s : Bool). record { negative = s; ask = constraint_named p b c }) (sym begun.negative_is) ∙ ap (λ xs. record { negative = g.negative; ask = xs }) (sym ask_is) in
       let leaves : ls'' ≡ ls ++ h.more_leaves = h.leaves_are ∙ ap (λ xs. xs ++ h.more_leaves) el in
       record {
         more_guards = g' ∷ h.more_guards;
@@ -151,23 +151,23 @@ module _ (p : CoreProgram) (is : IsWellFormed p) (cells : List NetCell) (t n : �
             ∙ ap (λ (j : ℕ). set ((gs ++ g ∷ []) ++ h.more_guards) j g') ek ∙ set-between gs h.more_guards g g';
         leaves_are = el' ∙ leaves;
         grown = λ path.
-            let way : List Guard = map (guard_named p) path in
-            let os : List (Occurrence Guard) = map (occurrence_named p) (occurrences_of t (agent_at p.nodes m) b (path ++ mk ∷ [])) in
-            let out : List Leaf = map (leaf_named p) (below p is n t b (path ++ mk ∷ []) m) in
-            same-grown begun.above_is refl refl refl (ap (λ (x : Guard). record { guard = x; path = way } ∷ os) (sym call) ∙ ap (map (occurrence_named p)) (sym (within path))) (ap (map (leaf_named p)) (sym (same path)))
+            let way : List NamedGuard = map (guard_named p) path in
+            let os : List (Occurrence NamedGuard) = map (occurrence_named p) (occurrences_of t (agent_at p.nodes m) b (path ++ mk ∷ [])) in
+            let out : List NamedLeaf = map (leaf_named p) (below p is n t b (path ++ mk ∷ []) m) in
+            same-grown begun.above_is refl refl refl (ap (λ (x : NamedGuard). record { guard = x; path = way } ∷ os) (sym call) ∙ ap (map (occurrence_named p)) (sym (within path))) (ap (map (leaf_named p)) (sym (same path)))
             (under way (length gs) (length ls) g' h.more_guards h.more_leaves os out (subst (All (AtomFits cells)) (sym begun.ask_is) are.fit) begun.first_is (ap length leaves ∙ length-append ls h.more_leaves)
-            (same-grown (ap Some ek) (map-append (guard_named p) path (mk ∷ []) ∙ ap (λ (x : Guard). way ++ x ∷ []) call) (length-more gs gs' g eg) (ap length el) refl refl (h.grown (path ++ mk ∷ []))));
+            (same-grown (ap Some ek) (map-append (guard_named p) path (mk ∷ []) ∙ ap (λ (x : NamedGuard). way ++ x ∷ []) call) (length-more gs gs' g eg) (ap length el) refl refl (h.grown (path ++ mk ∷ []))));
         linked =
             let nearest : Some k ≡ Some (length gs) = ap Some ek in
             let place : length gs' ≡ suc (length gs) = length-more gs gs' g eg in
             let from : length ls' ≡ length ls = ap length el in
-            let past : length ls'' ≡ length ls + leaf_count (agent_at p.nodes m) = ap length leaves ∙ length-append ls h.more_leaves ∙ ap (λ (j : ℕ). length ls + j) (linked-leaves h.linked) in
+            let past : length ls'' ≡ length ls + agent_leaf_count (agent_at p.nodes m) = ap length leaves ∙ length-append ls h.more_leaves ∙ ap (λ (j : ℕ). length ls + j) (linked-leaves h.linked) in
             record {
               guards_are =
                   ap (λ (o : Option ℕ). record { above = o; first = g.first; past = length ls'' } ∷ map links_of h.more_guards) begun.above_is
                   ∙ ap (λ (j : ℕ). record { above = last; first = j; past = length ls'' } ∷ map links_of h.more_guards) begun.first_is
                   ∙ ap (λ (j : ℕ). record { above = last; first = length ls; past = j } ∷ map links_of h.more_guards) past
-                  ∙ ap (λ xs. guard_link last (length ls) (leaf_count (agent_at p.nodes m)) ∷ xs)
+                  ∙ ap (λ xs. guard_link last (length ls) (agent_leaf_count (agent_at p.nodes m)) ∷ xs)
                   (h.linked.guards_are
                   ∙ ap (λ (o : Option ℕ). guard_links (agent_at p.nodes m) o (length gs') (length ls')) nearest
                   ∙ ap (λ (j : ℕ). guard_links (agent_at p.nodes m) (Some (length gs)) j (length ls')) place
@@ -218,11 +218,11 @@ module _ (p : CoreProgram) (cells : List NetCell) (t : ℕ) (roots : List Closur
       → AreListedFor p cells t (take i roots) gs ls → Adds p cells t r.node b None gs gs' ls ls' → AreListedFor p cells t (take (i + 1) roots) gs' ls'
   roots-next i r b gs gs' ls ls' lt is eb h h' =
       let taken : take i roots ++ r ∷ [] ≡ take (i + 1) roots = ap (λ (x : Closure). take i roots ++ x ∷ []) is ∙ sym (take_more roots i r lt) in
-      let own : List Leaf = map (leaf_named p) (leaves_in r b) in
+      let own : List NamedLeaf = map (leaf_named p) (leaves_in r b) in
       let out : root_leaves p (take i roots) t ++ own ≡ root_leaves p (take (i + 1) roots) t =
       ap (λ (bs : List ℕ). root_leaves p (take i roots) t ++ map (leaf_named p) (leaves_in r bs)) eb
       ∙ sym (flat-more (λ (x : Closure). leaves_in x x.births) (leaf_named p) (take i roots) r) ∙ ap (λ rs. root_leaves p rs t) taken in
-      let asked : List (Occurrence Guard) = map (occurrence_named p) (asks_in r b) in
+      let asked : List (Occurrence NamedGuard) = map (occurrence_named p) (asks_in r b) in
       let os : root_occurrences p (take i roots) t ++ asked ≡ root_occurrences p (take (i + 1) roots) t =
       ap (λ (bs : List ℕ). root_occurrences p (take i roots) t ++ map (occurrence_named p) (asks_in r bs)) eb
       ∙ sym (flat-more (λ (x : Closure). asks_in x x.births) (occurrence_named p) (take i roots) r) ∙ ap (λ rs. root_occurrences p rs t) taken in

@@ -7,7 +7,7 @@ use Rattle.agent_core.specs.Agents.{Agent, Skip, Tell, Then, Else, Par, New, Hen
 use Rattle.agent_core.specs.Programs.{CoreProgram}
 use Rattle.instant_net.specs.declared.parts.NetGuard.{NetGuard}
 use Rattle.instant_net.specs.declared.parts.NetLeaf.{NetLeaf}
-use Rattle.instant_net.specs.Programs.{leaf_count}
+use Rattle.instant_net.specs.Programs.{agent_leaf_count}
 use Rattle.instant_net.specs.Links.{guard_count, GuardLinks, guard_links, leaf_links, root_guard_links, root_leaf_links, links_of, AreLinked, AreLinkedAsRoots}
 use Rattle.instant_net.proofs.Counts.{length-map}
 
@@ -20,11 +20,11 @@ guard_links-count (Then c a) nearest k l = ap suc (guard_links-count a (Some k) 
 guard_links-count (Else c a) nearest k l = ap suc (guard_links-count a (Some k) (suc k) l)
 guard_links-count (Par a b) nearest k l =
     let x = guard_links-count a nearest k l in
-    let y = guard_links-count b nearest (k + guard_count a) (l + leaf_count a) in
-    omega (arith, length-append (guard_links a nearest k l) (guard_links b nearest (k + guard_count a) (l + leaf_count a)))
+    let y = guard_links-count b nearest (k + guard_count a) (l + agent_leaf_count a) in
+    omega (arith, length-append (guard_links a nearest k l) (guard_links b nearest (k + guard_count a) (l + agent_leaf_count a)))
 guard_links-count (New cell a) nearest k l = guard_links-count a nearest k l
 
-pub leaf_links-count : (a : Agent) (nearest : Option ℕ) (k : ℕ) → length (leaf_links a nearest k) ≡ leaf_count a
+pub leaf_links-count : (a : Agent) (nearest : Option ℕ) (k : ℕ) → length (leaf_links a nearest k) ≡ agent_leaf_count a
 leaf_links-count Skip nearest k = refl
 leaf_links-count (Tell c) nearest k = refl
 leaf_links-count (Hence a) nearest k = refl
@@ -40,7 +40,7 @@ leaf_links-count (New cell a) nearest k = leaf_links-count a nearest k
 pub linked-guards : {a : Agent} {nearest : Option ℕ} {k l : ℕ} {gs : List NetGuard} {ls : List NetLeaf} → AreLinked a nearest k l gs ls → length gs ≡ guard_count a
 linked-guards {a} {nearest} {k} {l} {gs} h = sym (length-map links_of gs) ∙ ap length h.guards_are ∙ guard_links-count a nearest k l
 
-pub linked-leaves : {a : Agent} {nearest : Option ℕ} {k l : ℕ} {gs : List NetGuard} {ls : List NetLeaf} → AreLinked a nearest k l gs ls → length ls ≡ leaf_count a
+pub linked-leaves : {a : Agent} {nearest : Option ℕ} {k l : ℕ} {gs : List NetGuard} {ls : List NetLeaf} → AreLinked a nearest k l gs ls → length ls ≡ agent_leaf_count a
 linked-leaves {a} {nearest} {k} {l} {gs} {ls} h = sym (length-map (λ (x : NetLeaf). x.last) ls) ∙ ap length h.leaves_are ∙ leaf_links-count a nearest k
 
 -- two parts, one after the other
@@ -48,7 +48,7 @@ pub linked-par : (a b : Agent) (nearest : Option ℕ) (k k' l l' : ℕ) (gs gs' 
     → AreLinked a nearest k l gs ls → AreLinked b nearest k' l' gs' ls' → AreLinked (Par a b) nearest k l (gs ++ gs') (ls ++ ls')
 linked-par a b nearest k k' l l' gs gs' ls ls' ek el h h' =
     let fk : k' ≡ k + guard_count a = ek ∙ ap (λ (n : ℕ). k + n) (linked-guards h) in
-    let fl : l' ≡ l + leaf_count a = el ∙ ap (λ (n : ℕ). l + n) (linked-leaves h) in
+    let fl : l' ≡ l + agent_leaf_count a = el ∙ ap (λ (n : ℕ). l + n) (linked-leaves h) in
     record {
       guards_are =
           map-append links_of gs gs' ∙ ap (λ xs. xs ++ map links_of gs') h.guards_are
@@ -67,7 +67,7 @@ guards_in p (r ∷ rs) = guard_count (agent_at p.nodes r.node) + guards_in p rs
 
 abbrev pub leaves_in : CoreProgram → List Closure → ℕ
 leaves_in p [] = 0
-leaves_in p (r ∷ rs) = leaf_count (agent_at p.nodes r.node) + leaves_in p rs
+leaves_in p (r ∷ rs) = agent_leaf_count (agent_at p.nodes r.node) + leaves_in p rs
 
 module _ (p : CoreProgram) where
   abbrev tree : Closure → Agent
@@ -77,8 +77,8 @@ module _ (p : CoreProgram) where
   root_guards-count [] k l = refl
   root_guards-count (r ∷ rs) k l =
       let x = guard_links-count (tree r) None k l in
-      let y = root_guards-count rs (k + guard_count (tree r)) (l + leaf_count (tree r)) in
-      omega (arith, length-append (guard_links (tree r) None k l) (root_guard_links p rs (k + guard_count (tree r)) (l + leaf_count (tree r))))
+      let y = root_guards-count rs (k + guard_count (tree r)) (l + agent_leaf_count (tree r)) in
+      omega (arith, length-append (guard_links (tree r) None k l) (root_guard_links p rs (k + guard_count (tree r)) (l + agent_leaf_count (tree r))))
 
   pub root_leaves-count : (rs : List Closure) (k : ℕ) → length (root_leaf_links p rs k) ≡ leaves_in p rs
   root_leaves-count [] k = refl
@@ -93,8 +93,8 @@ module _ (p : CoreProgram) where
       append-nil (guard_links (tree r) None k l)
       ∙ ap (λ (j : ℕ). guard_links (tree r) None j l) (let g : k ≡ m = omega arith in g) ∙ ap (guard_links (tree r) None m) (let g : l ≡ n = omega arith in g)
   guards-more (s ∷ rs) r k l m n e f =
-      ap (λ xs. guard_links (tree s) None k l ++ xs) (guards-more rs r (k + guard_count (tree s)) (l + leaf_count (tree s)) m n (omega arith) (omega arith))
-      ∙ sym (append_assoc (guard_links (tree s) None k l) (root_guard_links p rs (k + guard_count (tree s)) (l + leaf_count (tree s))) (guard_links (tree r) None m n))
+      ap (λ xs. guard_links (tree s) None k l ++ xs) (guards-more rs r (k + guard_count (tree s)) (l + agent_leaf_count (tree s)) m n (omega arith) (omega arith))
+      ∙ sym (append_assoc (guard_links (tree s) None k l) (root_guard_links p rs (k + guard_count (tree s)) (l + agent_leaf_count (tree s))) (guard_links (tree r) None m n))
 
   leaves-more : (rs : List Closure) (r : Closure) (k m : ℕ) → m ≡ k + guards_in p rs → root_leaf_links p (rs ++ r ∷ []) k ≡ root_leaf_links p rs k ++ leaf_links (tree r) None m
   leaves-more [] r k m e = append-nil (leaf_links (tree r) None k) ∙ ap (leaf_links (tree r) None) (let g : k ≡ m = omega arith in g)

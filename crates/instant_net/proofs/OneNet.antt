@@ -22,12 +22,12 @@ use Rattle.instant_net.specs.declared.parts.NetGuard.{NetGuard}
 use Rattle.instant_net.specs.declared.parts.NetLeaf.{NetLeaf}
 use Rattle.instant_net.specs.declared.parts.LeafKind.{LeafKind}
 use Rattle.instant_net.specs.declared.parts.LeafKind.TheVariants as kinds
-use Rattle.instant_net.specs.NamedLeaves.{Named, Guard, Kind, Tells, StartsHence, StartsNext, Leaf, told_by, names_of}
+use Rattle.instant_net.specs.NamedLeaves.{Named, NamedGuard, Kind, Tells, StartsHence, StartsNext, NamedLeaf, told_by, names_of}
 use Rattle.instant_net.specs.Occurrences.{Occurrence}
-use Rattle.instant_net.specs.Nets.{Flat, AtomFits, named_at, named, named_guard, named_kind, named_leaf, named_occurrence, net_leaves, path_to, paths_from, atoms_of, IsBelow}
+use Rattle.instant_net.specs.Nets.{Flat, AtomFits, named_at, named_atoms, named_guard, named_kind, named_leaf, named_occurrence, net_leaves, path_to, paths_from, atoms_of, IsLinkBelow}
 use Rattle.instant_net.specs.Links.{GuardLinks, links_of}
 use Rattle.instant_net.specs.Opened.{IsCellOf, AreInOrder, IsNetOf}
-use Rattle.instant_net.specs.Walks.{IsPlaceOf}
+use Rattle.instant_net.specs.Walks.{IsPlaceOfName}
 use Rattle.instant_net.specs.Words.{kind_hows, AreLaidOut}
 use Rattle.instant_net.specs.Collecting.{cell_names}
 use Rattle.instant_net.proofs.Lists.{same-elements, Contains-map, All-by_get}
@@ -119,30 +119,30 @@ module _ (cells : List NetCell) where
   abbrev HasName : Named → Type 0
   HasName x = Contains (cell_names cells) x.name
 
-  atoms_there : (atoms : List Atom) → Each HasName (named cells atoms)
+  atoms_there : (atoms : List Atom) → Each HasName (named_atoms cells atoms)
   atoms_there [] = tt
-  atoms_there (a ∷ atoms) = Each-append HasName (named_at (slice_get cells a.cell) a) (named cells atoms) (at (slice_get cells a.cell) refl) (atoms_there atoms)
+  atoms_there (a ∷ atoms) = Each-append HasName (named_at (slice_get cells a.cell) a) (named_atoms cells atoms) (at (slice_get cells a.cell) refl) (atoms_there atoms)
     where
       at : (o : Option NetCell) → slice_get cells a.cell ≡ o → Each HasName (named_at o a)
       at None e = tt
       at (Some c) e = (Contains-map (λ (x : NetCell). x.name) cells c (same-elements cells c a.cell e), tt)
 
-  abbrev AsksThere : Guard → Type 0
+  abbrev AsksThere : NamedGuard → Type 0
   AsksThere g = Each HasName g.ask
 
-  path_at : (paths : List (List Guard)) (k : ℕ) → Each (Each AsksThere) paths → Each AsksThere (slice_index_or paths k [])
+  path_at : (paths : List (List NamedGuard)) (k : ℕ) → Each (Each AsksThere) paths → Each AsksThere (slice_index_or paths k [])
   path_at [] k h = tt
   path_at (y ∷ paths) zero h = h.0
   path_at (y ∷ paths) (suc k) h = path_at paths k h.1
 
-  path_there : (paths : List (List Guard)) (o : Option ℕ) → Each (Each AsksThere) paths → Each AsksThere (path_to paths o)
+  path_there : (paths : List (List NamedGuard)) (o : Option ℕ) → Each (Each AsksThere) paths → Each AsksThere (path_to paths o)
   path_there paths None h = tt
   path_there paths (Some k) h = path_at paths k h
 
-  paths_there : (paths : List (List Guard)) (guards : List NetGuard) → Each (Each AsksThere) paths → Each (Each AsksThere) (paths_from cells paths guards)
+  paths_there : (paths : List (List NamedGuard)) (guards : List NetGuard) → Each (Each AsksThere) paths → Each (Each AsksThere) (paths_from cells paths guards)
   paths_there paths [] h = h
   paths_there paths (g ∷ guards) h =
-      let x : List Guard = path_to paths g.above ++ named_guard cells g ∷ [] in
+      let x : List NamedGuard = path_to paths g.above ++ named_guard cells g ∷ [] in
       paths_there (paths ++ x ∷ []) guards
       (Each-append (Each AsksThere) paths (x ∷ []) h (Each-append AsksThere (path_to paths g.above) (named_guard cells g ∷ []) (path_there paths g.above h) (atoms_there g.ask, tt), tt))
 
@@ -156,18 +156,18 @@ module _ (cells : List NetCell) where
   names_there [] h = tt
   names_there (x ∷ xs) h = (h.0, names_there xs h.1)
 
-  asks_there : (path : List Guard) → Each AsksThere path → Each HasName (flat_map (λ g. g.ask) path)
+  asks_there : (path : List NamedGuard) → Each AsksThere path → Each HasName (flat_map (λ g. g.ask) path)
   asks_there [] h = tt
-  asks_there (g ∷ path) h = Each-append HasName g.ask (flat_map (λ (x : Guard). x.ask) path) h.0 (asks_there path h.1)
+  asks_there (g ∷ path) h = Each-append HasName g.ask (flat_map (λ (x : NamedGuard). x.ask) path) h.0 (asks_there path h.1)
 
 spoken_there : (net : Flat) (ls : List NetLeaf) → Each (Contains (cell_names net.cells)) (flat_map names_of (map (named_leaf net) ls))
 spoken_there net [] = tt
 spoken_there net (l ∷ ls) =
-    let path : List Guard = (named_leaf net l).path in
+    let path : List NamedGuard = (named_leaf net l).path in
     let told : List Named = told_by (named_kind net.cells l.kind) in
     Each-append (Contains (cell_names net.cells)) (names_of (named_leaf net l)) (flat_map names_of (map (named_leaf net) ls))
-    (names_there net.cells (told ++ flat_map (λ (g : Guard). g.ask) path)
-    (Each-append (HasName net.cells) told (flat_map (λ (g : Guard). g.ask) path) (told_there net.cells l.kind)
+    (names_there net.cells (told ++ flat_map (λ (g : NamedGuard). g.ask) path)
+    (Each-append (HasName net.cells) told (flat_map (λ (g : NamedGuard). g.ask) path) (told_there net.cells l.kind)
     (asks_there net.cells path (path_there net.cells (paths_from net.cells [] net.guards) l.last (paths_there net.cells [] net.guards tt)))))
     (spoken_there net ls)
 
@@ -188,29 +188,29 @@ module _ (cells : List NetCell) (order : AreInOrder cells) where
   abbrev named_as : NetCell → Atom → Named
   named_as c a = record { name = c.name; cell = c.cell; token = a.token }
 
-  named_first : (a : Atom) (atoms : List Atom) (c : NetCell) → slice_get cells a.cell ≡ Some c → named cells (a ∷ atoms) ≡ named_as c a ∷ named cells atoms
-  named_first a atoms c e = ap (λ (o : Option NetCell). named_at o a ++ named cells atoms) e
+  named_first : (a : Atom) (atoms : List Atom) (c : NetCell) → slice_get cells a.cell ≡ Some c → named_atoms cells (a ∷ atoms) ≡ named_as c a ∷ named_atoms cells atoms
+  named_first a atoms c e = ap (λ (o : Option NetCell). named_at o a ++ named_atoms cells atoms) e
 
-  atoms_same : (xs ys : List Atom) → Each (AtomFits cells) xs → Each (AtomFits cells) ys → named cells xs ≡ named cells ys → xs ≡ ys
+  atoms_same : (xs ys : List Atom) → Each (AtomFits cells) xs → Each (AtomFits cells) ys → named_atoms cells xs ≡ named_atoms cells ys → xs ≡ ys
   atoms_same [] [] f g e = refl
   atoms_same [] (b ∷ ys) f g e = absurd (let h = e ∙ named_first b ys g.0.0 g.0.1 in cc)
   atoms_same (a ∷ xs) [] f g e = absurd (let h = sym (named_first a xs f.0.0 f.0.1) ∙ e in cc)
   atoms_same (a ∷ xs) (b ∷ ys) f g e =
       let c : NetCell = f.0.0 in
       let d : NetCell = g.0.0 in
-      let both : named_as c a ∷ named cells xs ≡ named_as d b ∷ named cells ys = sym (named_first a xs c f.0.1) ∙ e ∙ named_first b ys d g.0.1 in
-      let one : named_as c a ≡ named_as d b = first_of (named_as c a) (named_as d b) (named cells xs) (named cells ys) both in
+      let both : named_as c a ∷ named_atoms cells xs ≡ named_as d b ∷ named_atoms cells ys = sym (named_first a xs c f.0.1) ∙ e ∙ named_first b ys d g.0.1 in
+      let one : named_as c a ≡ named_as d b = first_of (named_as c a) (named_as d b) (named_atoms cells xs) (named_atoms cells ys) both in
       let place : a.cell ≡ b.cell = one_place a.cell b.cell c d f.0.1 g.0.1 (ap (λ (x : Named). x.name) one) in
       let token : a.token ≡ b.token = ap (λ (x : Named). x.token) one in
       ap (λ (k : ℕ). record { cell = k; token = a.token } ∷ xs) place ∙ ap (λ (t : Token). record { cell = b.cell; token = t } ∷ xs) token
-      ∙ ap (λ zs. b ∷ zs) (atoms_same xs ys f.1 g.1 (rest_of (named_as c a) (named_as d b) (named cells xs) (named cells ys) both))
+      ∙ ap (λ zs. b ∷ zs) (atoms_same xs ys f.1 g.1 (rest_of (named_as c a) (named_as d b) (named_atoms cells xs) (named_atoms cells ys) both))
 
   guard_same : (g h : NetGuard) → All (AtomFits cells) g.ask → All (AtomFits cells) h.ask → named_guard cells g ≡ named_guard cells h → links_of g ≡ links_of h → g ≡ h
   guard_same g h f f' e l =
-      let ask : g.ask ≡ h.ask = atoms_same g.ask h.ask (all_each (AtomFits cells) g.ask f) (all_each (AtomFits cells) h.ask f') (ap (λ (x : Guard). x.ask) e) in
-      ap (λ s. record { strict = s; ask = g.ask; above = g.above; first = g.first; past = g.past }) (ap (λ (x : Guard). x.strict) e)
-      ∙ ap (λ xs. record { strict = h.strict; ask = xs; above = g.above; first = g.first; past = g.past }) ask
-      ∙ ap (λ (x : GuardLinks). record { strict = h.strict; ask = h.ask; above = x.above; first = x.first; past = x.past }) l
+      let ask : g.ask ≡ h.ask = atoms_same g.ask h.ask (all_each (AtomFits cells) g.ask f) (all_each (AtomFits cells) h.ask f') (ap (λ (x : NamedGuard). x.ask) e) in
+      ap (λ s. record { negative = s; ask = g.ask; above = g.above; first = g.first; past = g.past }) (ap (λ (x : NamedGuard). x.negative) e)
+      ∙ ap (λ xs. record { negative = h.negative; ask = xs; above = g.above; first = g.first; past = g.past }) ask
+      ∙ ap (λ (x : GuardLinks). record { negative = h.negative; ask = h.ask; above = x.above; first = x.first; past = x.past }) l
 
   guards_same : (gs hs : List NetGuard) → Each (λ g. All (AtomFits cells) g.ask) gs → Each (λ g. All (AtomFits cells) g.ask) hs
       → map (named_guard cells) gs ≡ map (named_guard cells) hs → map links_of gs ≡ map links_of hs → gs ≡ hs
@@ -224,7 +224,7 @@ module _ (cells : List NetCell) (order : AreInOrder cells) where
   kind_same : (x y : LeafKind) → All (AtomFits cells) (atoms_of x) → All (AtomFits cells) (atoms_of y) → named_kind cells x ≡ named_kind cells y → x ≡ y
   kind_same kinds.Idle kinds.Idle f g e = refl
   kind_same (kinds.Tells xs) (kinds.Tells ys) f g e =
-      ap kinds.Tells (atoms_same xs ys (all_each (AtomFits cells) xs f) (all_each (AtomFits cells) ys g) (let h : named cells xs ≡ named cells ys = cc in h))
+      ap kinds.Tells (atoms_same xs ys (all_each (AtomFits cells) xs f) (all_each (AtomFits cells) ys g) (let h : named_atoms cells xs ≡ named_atoms cells ys = cc in h))
   kind_same (kinds.StartsHence c) (kinds.StartsHence d) f g e = ap kinds.StartsHence (let h : c ≡ d = cc in h)
   kind_same (kinds.StartsNext c) (kinds.StartsNext d) f g e = ap kinds.StartsNext (let h : c ≡ d = cc in h)
   kind_same kinds.Idle (kinds.Tells ys) f g e = absurd (cc)
@@ -286,7 +286,7 @@ module _ (p : CoreProgram) (table : List ℕ) (rs : List Closure) (t : ℕ) wher
   leaves_fit : (net : Flat) → IsNetOf p table rs t net → Each (λ l. All (AtomFits net.cells) (atoms_of l.kind)) net.leaves
   leaves_fit net is = go net.leaves (all_each _ net.leaves is.whole.leaves)
     where
-      go : (ls : List NetLeaf) → Each (λ l. All (AtomFits net.cells) (atoms_of l.kind) × IsBelow (length net.guards) l.last) ls → Each (λ l. All (AtomFits net.cells) (atoms_of l.kind)) ls
+      go : (ls : List NetLeaf) → Each (λ l. All (AtomFits net.cells) (atoms_of l.kind) × IsLinkBelow (length net.guards) l.last) ls → Each (λ l. All (AtomFits net.cells) (atoms_of l.kind)) ls
       go [] h = tt
       go (l ∷ ls) h = (h.0.0, go ls h.1)
 
@@ -308,7 +308,7 @@ module _ (p : CoreProgram) (table : List ℕ) (rs : List Closure) (t : ℕ) wher
           guards_same net'.cells is'.cells.order net.guards net'.guards
           (subst (λ xs. Each (λ g. All (AtomFits xs) g.ask) net.guards) cells (guards_fit net is)) (guards_fit net' is')
           (ap (λ xs. map (named_guard xs) net.guards) (sym cells) ∙ sym (guards_read net net.guards)
-          ∙ ap (map (λ (o : Occurrence Guard). o.guard)) (is.guards ∙ sym is'.guards) ∙ guards_read net' net'.guards)
+          ∙ ap (map (λ (o : Occurrence NamedGuard). o.guard)) (is.guards ∙ sym is'.guards) ∙ guards_read net' net'.guards)
           (is.links.guards_are ∙ sym is'.links.guards_are)
 
       leaves : net.leaves ≡ net'.leaves
@@ -316,5 +316,5 @@ module _ (p : CoreProgram) (table : List ℕ) (rs : List Closure) (t : ℕ) wher
           leaves_same net'.cells is'.cells.order net.leaves net'.leaves
           (subst (λ xs. Each (λ l. All (AtomFits xs) (atoms_of l.kind)) net.leaves) cells (leaves_fit net is)) (leaves_fit net' is')
           (ap (λ xs. map (kind_of xs) net.leaves) (sym cells) ∙ sym (kinds_read net net.leaves)
-          ∙ ap (map (λ (l : Leaf). l.kind)) (is.leaves ∙ sym is'.leaves) ∙ kinds_read net' net'.leaves)
+          ∙ ap (map (λ (l : NamedLeaf). l.kind)) (is.leaves ∙ sym is'.leaves) ∙ kinds_read net' net'.leaves)
           (is.links.leaves_are ∙ sym is'.links.leaves_are)

@@ -17,7 +17,7 @@ use Rattle.agent_laws.proofs.Eachs.{Each-map, all_each}
 use Rattle.instant_net.specs.declared.parts.NetCell.{NetCell}
 use Rattle.instant_net.specs.declared.parts.NetGuard.{NetGuard}
 use Rattle.instant_net.specs.declared.parts.NetLeaf.{NetLeaf}
-use Rattle.instant_net.specs.Programs.{leaf_count}
+use Rattle.instant_net.specs.Programs.{agent_leaf_count}
 use Rattle.instant_net.specs.Links.{guard_count, links_of, AreLinkedAsRoots}
 use Rattle.instant_net.specs.Walks.{HasRoomFor, Adds}
 use Rattle.instant_net.proofs.Counts.{length-map, few_leaves}
@@ -45,7 +45,7 @@ few_guards p is n lt =
     omega arith
 
 module _ (p : CoreProgram) (is : IsWellFormed p) (n : ℕ) (gs : List NetGuard) (ls : List NetLeaf) (room : HasRoomFor p n gs ls) where
-  room-guard : (m : ℕ) (gs' : List NetGuard) (ls' : List NetLeaf) (g : NetGuard) → guard_count (agent_at p.nodes n) ≡ suc (guard_count (agent_at p.nodes m)) → leaf_count (agent_at p.nodes n) ≡ leaf_count (agent_at p.nodes m)
+  room-guard : (m : ℕ) (gs' : List NetGuard) (ls' : List NetLeaf) (g : NetGuard) → guard_count (agent_at p.nodes n) ≡ suc (guard_count (agent_at p.nodes m)) → agent_leaf_count (agent_at p.nodes n) ≡ agent_leaf_count (agent_at p.nodes m)
       → gs' ≡ gs ++ g ∷ [] → ls' ≡ ls → HasRoomFor p m gs' ls'
   room-guard m gs' ls' g e f eg el =
       let x : length gs' ≡ length gs + 1 = ap length eg ∙ length-append gs (g ∷ []) in
@@ -55,23 +55,23 @@ module _ (p : CoreProgram) (is : IsWellFormed p) (n : ℕ) (gs : List NetGuard) 
       record { guards = omega arith; leaves = omega arith }
 
   pub room-then : (c : Constraint) (m : ℕ) → slice_get p.nodes n ≡ Some (nodes.Then c m) → (gs' : List NetGuard) (ls' : List NetLeaf) (g : NetGuard) → gs' ≡ gs ++ g ∷ [] → ls' ≡ ls → HasRoomFor p m gs' ls'
-  room-then c m found gs' ls' g = room-guard m gs' ls' g (ap guard_count (agent-is p is n (nodes.Then c m) found)) (ap leaf_count (agent-is p is n (nodes.Then c m) found))
+  room-then c m found gs' ls' g = room-guard m gs' ls' g (ap guard_count (agent-is p is n (nodes.Then c m) found)) (ap agent_leaf_count (agent-is p is n (nodes.Then c m) found))
 
   pub room-else : (c : Constraint) (m : ℕ) → slice_get p.nodes n ≡ Some (nodes.Else c m) → (gs' : List NetGuard) (ls' : List NetLeaf) (g : NetGuard) → gs' ≡ gs ++ g ∷ [] → ls' ≡ ls → HasRoomFor p m gs' ls'
-  room-else c m found gs' ls' g = room-guard m gs' ls' g (ap guard_count (agent-is p is n (nodes.Else c m) found)) (ap leaf_count (agent-is p is n (nodes.Else c m) found))
+  room-else c m found gs' ls' g = room-guard m gs' ls' g (ap guard_count (agent-is p is n (nodes.Else c m) found)) (ap agent_leaf_count (agent-is p is n (nodes.Else c m) found))
 
   pub room-new : (cell m : ℕ) → slice_get p.nodes n ≡ Some (nodes.New cell m) → HasRoomFor p m gs ls
   room-new cell m found = record {
     guards = subst (λ (k : ℕ). length gs + k < 4294967296) (ap guard_count (agent-is p is n (nodes.New cell m) found)) room.guards;
-    leaves = subst (λ (k : ℕ). length ls + k < 4294967296) (ap leaf_count (agent-is p is n (nodes.New cell m) found)) room.leaves;
+    leaves = subst (λ (k : ℕ). length ls + k < 4294967296) (ap agent_leaf_count (agent-is p is n (nodes.New cell m) found)) room.leaves;
   }
 
   module _ (l r : ℕ) (found : slice_get p.nodes n ≡ Some (nodes.Par l r)) where
     guards : guard_count (agent_at p.nodes n) ≡ guard_count (agent_at p.nodes l) + guard_count (agent_at p.nodes r)
     guards = ap guard_count (agent-is p is n (nodes.Par l r) found)
 
-    leaves : leaf_count (agent_at p.nodes n) ≡ leaf_count (agent_at p.nodes l) + leaf_count (agent_at p.nodes r)
-    leaves = ap leaf_count (agent-is p is n (nodes.Par l r) found)
+    leaves : agent_leaf_count (agent_at p.nodes n) ≡ agent_leaf_count (agent_at p.nodes l) + agent_leaf_count (agent_at p.nodes r)
+    leaves = ap agent_leaf_count (agent-is p is n (nodes.Par l r) found)
 
     pub room-left : HasRoomFor p l gs ls
     room-left = let a = room.guards in let b = room.leaves in let x = guards in let y = leaves in record { guards = omega arith; leaves = omega arith }

@@ -22,7 +22,7 @@ use Rattle.instant_net.specs.declared.parts.NetCell.{NetCell}
 use Rattle.instant_net.specs.declared.words.How.{How}
 use Rattle.instant_net.specs.declared.words.How.TheVariants.{Or}
 use Rattle.instant_net.specs.NamedLeaves.{tell_named}
-use Rattle.instant_net.specs.Nets.{named, named_at, AtomFits}
+use Rattle.instant_net.specs.Nets.{named_atoms, named_at, AtomFits}
 use Rattle.instant_net.specs.Opened.{AreInOrder}
 use Rattle.instant_net.specs.Words.{hows, kind_hows, unknown_words, shifted, told_as, told_of, atom_told, tell_word, tell_atoms, value_in, store_in, AreLaidOut, AreWords, Lies}
 use Rattle.instant_net.proofs.WordPlaces.{IsPlaced, placed, width, within, as_many, later_words, how_at, empty_at}
@@ -174,7 +174,7 @@ module _ (cells : List NetCell) (laid : AreLaidOut 0 cells) (order : AreInOrder 
 
   -- telling atoms in turn is telling their tokens to the store
   pub all_told : (atoms : List Atom) → All (AtomFits cells) atoms → (words : List ℕ) → AreWords cells words
-      → AreWords cells (tell_atoms cells atoms words) × (store_in cells (tell_atoms cells atoms words) ≡ tell_named (named cells atoms) (store_in cells words))
+      → AreWords cells (tell_atoms cells atoms words) × (store_in cells (tell_atoms cells atoms words) ≡ tell_named (named_atoms cells atoms) (store_in cells words))
   all_told [] fit words are = (are, refl)
   all_told (a ∷ atoms) fit words are =
       let f = All-head (AtomFits cells) a atoms fit in
@@ -184,6 +184,6 @@ module _ (cells : List NetCell) (laid : AreLaidOut 0 cells) (order : AreInOrder 
       ap (λ o. store_in cells (tell_word words (atom_told o a.token))) f.1 ∙ told_store cells laid words are a.cell f.0 f.1 a.token f.2 order in (
         rest.0,
         rest.1
-            ∙ ap (tell_named (named cells atoms)) one
-            ∙ sym (ap (λ o. tell_named (named_at o a ++ named cells atoms) (store_in cells words)) f.1),
+            ∙ ap (tell_named (named_atoms cells atoms)) one
+            ∙ sym (ap (λ o. tell_named (named_at o a ++ named_atoms cells atoms) (store_in cells words)) f.1),
       )

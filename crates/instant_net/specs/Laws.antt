@@ -12,7 +12,7 @@ use Rattle.agent_laws.specs.LeafRests as core_rests
 use Rattle.instant_net.specs.NamedLeaves.{leaves_rest}
 use Rattle.instant_net.specs.Nets.{Flat, net_leaves}
 use Rattle.instant_net.specs.Opened.{IsNetOf}
-use Rattle.instant_net.specs.Outputs.{IsOutput, IsStratified}
+use Rattle.instant_net.specs.Outputs.{IsNetOutput, IsStratified}
 
 -- where the table stratifies the program, the net of any roots is stratified
 abbrev pub NetsAreStratified : Type 0
@@ -34,7 +34,7 @@ NetsRestByLeaves =
 abbrev pub NetsHaveRootOutputs : Type 0
 NetsHaveRootOutputs =
     (p : CoreProgram) (table : List ℕ) (rs : List Closure) (t : ℕ) (net : Flat) → IsNetOf p table rs t net
-    → (i v : StoreMap) → IsInput p i → IsOutput net i v ↔ IsOutputOf p rs t i v
+    → (i v : StoreMap) → IsInput p i → IsNetOutput net i v ↔ IsOutputOf p rs t i v
 
 -- roots have one net at an instant
 abbrev pub RootsHaveOneNet : Type 0

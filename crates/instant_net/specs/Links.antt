@@ -5,7 +5,7 @@ use Rattle.agent_core.specs.Agents.{Agent, Skip, Tell, Then, Else, Par, New, Hen
 use Rattle.agent_core.specs.Programs.{CoreProgram}
 use Rattle.instant_net.specs.declared.parts.NetGuard.{NetGuard}
 use Rattle.instant_net.specs.declared.parts.NetLeaf.{NetLeaf}
-use Rattle.instant_net.specs.Programs.{leaf_count}
+use Rattle.instant_net.specs.Programs.{agent_leaf_count}
 
 -- how many guards an agent has within the instant
 abbrev pub guard_count : Agent → ℕ
@@ -34,9 +34,9 @@ guard_links Skip nearest k l = []
 guard_links (Tell told) nearest k l = []
 guard_links (Hence a) nearest k l = []
 guard_links (Next a) nearest k l = []
-guard_links (Then ask a) nearest k l = guard_link nearest l (leaf_count a) ∷ guard_links a (Some k) (suc k) l
-guard_links (Else ask a) nearest k l = guard_link nearest l (leaf_count a) ∷ guard_links a (Some k) (suc k) l
-guard_links (Par a b) nearest k l = guard_links a nearest k l ++ guard_links b nearest (k + guard_count a) (l + leaf_count a)
+guard_links (Then ask a) nearest k l = guard_link nearest l (agent_leaf_count a) ∷ guard_links a (Some k) (suc k) l
+guard_links (Else ask a) nearest k l = guard_link nearest l (agent_leaf_count a) ∷ guard_links a (Some k) (suc k) l
+guard_links (Par a b) nearest k l = guard_links a nearest k l ++ guard_links b nearest (k + guard_count a) (l + agent_leaf_count a)
 guard_links (New cell a) nearest k l = guard_links a nearest k l
 
 -- the nearest guard around each leaf of the agent
@@ -55,7 +55,7 @@ abbrev pub root_guard_links : CoreProgram → List Closure → ℕ → ℕ → L
 root_guard_links p [] k l = []
 root_guard_links p (r ∷ rs) k l =
     guard_links (agent_at p.nodes r.node) None k l
-    ++ root_guard_links p rs (k + guard_count (agent_at p.nodes r.node)) (l + leaf_count (agent_at p.nodes r.node))
+    ++ root_guard_links p rs (k + guard_count (agent_at p.nodes r.node)) (l + agent_leaf_count (agent_at p.nodes r.node))
 
 -- the nearest guard around each leaf of these roots
 abbrev pub root_leaf_links : CoreProgram → List Closure → ℕ → List (Option ℕ)

@@ -2,14 +2,14 @@
 ghost use Rattle.std.specs.Prelude.{◌≡◌, ℕ, ◌<◌, ◌≤◌, length};
 ghost use Rattle.agent_core.specs.Agents.{agent_at};
 ghost use Rattle.agent_laws.specs.Laws.{AreClosures};
-ghost use Rattle.instant_net.specs.Programs.{leaf_count, root_leaves};
+ghost use Rattle.instant_net.specs.Programs.{agent_leaf_count, root_leaves};
 
 use agent_core::{Closure, Node, Program};
 
 /// How many leaves there are below the node, within the instant.
 fn node_leaves(program: &Program, node: u32) -> u64
     requires { node < length program.now.nodes }
-    ensures count { result ≡ leaf_count (agent_at program.now.nodes node) }
+    ensures count { result ≡ agent_leaf_count (agent_at program.now.nodes node) }
     ensures bounded { result ≤ 4096 }
 {
     match &program.nodes()[node as usize] {

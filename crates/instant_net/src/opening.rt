@@ -4,7 +4,6 @@ ghost use Rattle.std.specs.List.Sorted.{IsStrictlySortedBy};
 ghost use Rattle.agent_core.specs.Closures.{closure_cmp};
 ghost use Rattle.agent_laws.specs.Laws.{AreClosures};
 ghost use Rattle.instant_net.specs.Opened.{IsNetOf};
-ghost use Rattle.instant_net.specs.Opened as specs;
 ghost use Rattle.instant_net.specs.Programs.{root_leaves};
 ghost use Rattle.instant_net.specs.declared.opening.NetFault.TheVariants.{Memory as OutOfMemory};
 
@@ -34,17 +33,6 @@ impl From<Memory> for NetFault {
     }
 }
 
-/// The greatest of the levels plus one, or 0 where there are none.
-fn strata_of(levels: &Levels) -> u32
-    ensures { result ≡ specs.strata_of levels.now }
-{
-    let mut strata = 0;
-    for level in levels.list() {
-        strata = strata.max(*level + 1);
-    }
-    strata
-}
-
 /// The net of these roots, which have few enough leaves.
 fn net_of(
     alloc: Global,
@@ -62,7 +50,7 @@ fn net_of(
     let locals = locals_of(alloc, program)?;
     let cells = net_cells(alloc, program, &locals, levels, roots, t)?;
     let parts = net_parts(alloc, program, &locals, roots, t, &cells)?;
-    Ok(Net::make(t, strata_of(levels), cells, parts.guards, parts.leaves))
+    Ok(Net::make(t, levels.strata(), cells, parts.guards, parts.leaves))
 }
 
 /// The net of these roots, all started at instant t: the limit is on the number of its leaves, which are counted before

@@ -11,7 +11,7 @@ ghost use Rattle.instant_net.specs.declared.parts.NetGuard.{NetGuard as GuardVal
 ghost use Rattle.instant_net.specs.Opened.{AreInOrder};
 ghost use Rattle.instant_net.specs.Collecting.{cell_names};
 ghost use Rattle.instant_net.specs.Covering.{TokenCovered, AskCovered, AgentCovered, RootsCovered};
-ghost use Rattle.instant_net.specs.Walks.{AreNamed, IsPlaceOf, IsAtomOf, AreAtomsOf, IsBegun, IsEnded, HasRoomFor, Adds, AreListedFor};
+ghost use Rattle.instant_net.specs.Walks.{AreNamed, IsPlaceOfName, IsAtomOf, AreAtomsOf, IsBegun, IsEnded, HasRoomFor, Adds, AreListedFor};
 
 use crate::locals::{Local, local_of};
 use crate::parts::{Atom, Atoms, LeafKind, NetCell, NetGuard, NetLeaf};
@@ -30,17 +30,17 @@ pub(crate) struct Parts {
 
 impl Parts {
     /// Adds a guard, whose leaves are not there yet, and gives its number.
-    fn begin_guard(&mut self, strict: bool, ask: Atoms, above: Option<u32>) -> Result<u32, Memory>
+    fn begin_guard(&mut self, negative: bool, ask: Atoms, above: Option<u32>) -> Result<u32, Memory>
         requires few_guards { length self.old.guards.items < 4294967296 }
         requires few_leaves { length self.old.leaves.items < 4294967296 }
         ensures number { IfOk result (λ k. k ≡ length self.old.guards.items) }
-        ensures guards { IfOk result (λ k. (g : GuardValue) × (self.new.guards.items ≡ self.old.guards.items ++ g ∷ []) × IsBegun strict ask above (length self.old.leaves.items) g) }
+        ensures guards { IfOk result (λ k. (g : GuardValue) × (self.new.guards.items ≡ self.old.guards.items ++ g ∷ []) × IsBegun negative ask above (length self.old.leaves.items) g) }
         ensures leaves { IfOk result (λ k. self.new.leaves.items ≡ self.old.leaves.items) }
     {
         let guard = self.guards.len() as u32;
         let first = self.leaves.len() as u32;
         self.guards.push(NetGuard {
-            strict,
+            negative,
             ask,
             above,
             first,
@@ -89,7 +89,7 @@ fn place_of(cells: &[NetCell], node: u32, births: &[u32]) -> u32
     requires order { AreInOrder cells.now }
     requires few { length cells.now < 4294967296 }
     requires there { Contains (cell_names cells.now) (LocalName node births.now) }
-    ensures { IsPlaceOf cells.now (LocalName node births.now) result }
+    ensures { IsPlaceOfName cells.now (LocalName node births.now) result }
 {
     match cells.binary_search_by(|cell| compared(&cell.name, node, births)) {
         Ok(place) => place as u32,

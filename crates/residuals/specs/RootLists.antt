@@ -13,8 +13,8 @@ pub record RootLists : Type 0 where
   pub stay : List Closure
 
 -- all of them, in their order
-abbrev pub listed : RootLists → List Closure
-listed roots = sorted (roots.once ++ roots.stay)
+abbrev pub listed_roots : RootLists → List Closure
+listed_roots roots = sorted (roots.once ++ roots.stay)
 
 -- each list is in order, with no closure twice; no closure is in both; and there are at most twice as many as an instant may have leaves
 pub record AreRootLists (roots : RootLists) : Type 0 where
@@ -28,6 +28,6 @@ goes p r = not (stays p r)
 
 -- the two lists are those of this sorted list of the program's closures: those that stay, and the others
 pub record AreRootsOf (p : CoreProgram) (rs : List Closure) (roots : RootLists) : Type 0 where
-  pub all : listed roots ≡ rs
+  pub all : listed_roots roots ≡ rs
   pub stay : roots.stay ≡ filter (stays p) rs
   pub once : roots.once ≡ filter (goes p) rs

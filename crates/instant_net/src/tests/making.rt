@@ -93,13 +93,13 @@ fn is_on(atoms: &Atoms, cell: u32) -> bool {
 /// Whether this is a guard on the one cell being on.
 fn is_guard(
     guard: &NetGuard,
-    strict: bool,
+    negative: bool,
     cell: u32,
     above: Option<u32>,
     first: u32,
     past: u32,
 ) -> bool {
-    guard.strict == strict
+    guard.negative == negative
         && is_on(&guard.ask, cell)
         && guard.above == above
         && guard.first == first

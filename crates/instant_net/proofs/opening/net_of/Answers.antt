@@ -24,8 +24,8 @@ pub make-requires : goal.make-requires
 make-requires c =
     let listed : AreListedFor c.args.program.now c.in_ok-cells.cells.items c.args.t c.args.roots.now c.in_ok-parts.parts.guards.items c.in_ok-parts.parts.leaves.items =
     subst (λ (cells : List NetCell). AreListedFor c.args.program.now cells c.args.t c.args.roots.now c.in_ok-parts.parts.guards.items c.in_ok-parts.parts.leaves.items) c.deref-3.ensures.value c.in_ok-parts.ensures in
-    net-fits c.args.program.now c.args.levels.now c.args.roots.now c.args.t c.strata_of.result c.in_ok-cells.cells.items c.in_ok-parts.parts.guards.items c.in_ok-parts.parts.leaves.items c.in_ok-cells.ensures.cells.program c.requires.closures c.requires.levels
-    c.in_ok-cells.ensures.cells listed c.strata_of.ensures c.requires.few_leaves
+    net-fits c.args.program.now c.args.levels.now c.args.roots.now c.args.t c.strata.result c.in_ok-cells.cells.items c.in_ok-parts.parts.guards.items c.in_ok-parts.parts.leaves.items c.in_ok-cells.ensures.cells.program c.requires.closures c.requires.levels
+    c.in_ok-cells.ensures.cells listed c.strata.ensures c.requires.few_leaves
     (guards-few c.args.program.now c.in_ok-cells.ensures.cells.program c.args.roots.now c.in_ok-parts.parts.guards.items c.in_ok-parts.parts.leaves.items c.requires.closures c.requires.few listed.linked)
 
 pub returns : goal.returns
@@ -33,5 +33,5 @@ returns c =
     let listed : AreListedFor c.args.program.now c.in_ok-cells.cells.items c.args.t c.args.roots.now c.in_ok-parts.parts.guards.items c.in_ok-parts.parts.leaves.items =
     subst (λ (cells : List NetCell). AreListedFor c.args.program.now cells c.args.t c.args.roots.now c.in_ok-parts.parts.guards.items c.in_ok-parts.parts.leaves.items) c.deref-3.ensures.value c.in_ok-parts.ensures in
     subst (IsNetOf c.args.program.now c.args.levels.now c.args.roots.now c.args.t) (sym c.make.ensures)
-    (net-is c.args.program.now c.args.levels.now c.args.roots.now c.args.t c.strata_of.result c.in_ok-cells.cells.items c.in_ok-parts.parts.guards.items c.in_ok-parts.parts.leaves.items c.in_ok-cells.ensures.cells.program c.requires.closures c.requires.levels
-    c.in_ok-cells.ensures.cells listed c.strata_of.ensures)
+    (net-is c.args.program.now c.args.levels.now c.args.roots.now c.args.t c.strata.result c.in_ok-cells.cells.items c.in_ok-parts.parts.guards.items c.in_ok-parts.parts.leaves.items c.in_ok-cells.ensures.cells.program c.requires.closures c.requires.levels
+    c.in_ok-cells.ensures.cells listed c.strata.ensures)
