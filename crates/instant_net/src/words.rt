@@ -10,7 +10,7 @@ mod reading;
 mod stores;
 
 use crate::net::Net;
-pub use reading::{holds, reaches, runs, value};
+pub use reading::{has, holds, reaches, runs, value};
 use std::marker::Model;
 pub use stores::{declared_store, open_words, words_store};
 

@@ -1,15 +1,14 @@
 //! Which leaves of a net are to tell.
-ghost use Rattle.std.specs.Prelude.{◌≡◌, ◌<◌, [], ◌∷◌, length, slice_get};
+ghost use Rattle.std.specs.Prelude.{◌≡◌, ◌<◌, length, slice_get};
 ghost use Rattle.instant_net.specs.declared.parts.NetLeaf.{NetLeaf};
 ghost use Rattle.instant_net.specs.NamedLeaves.{named_entails as entails_of};
-ghost use Rattle.instant_net.specs.Nets.{named_atoms, AtomFits};
+ghost use Rattle.instant_net.specs.Nets.{named_atoms};
 ghost use Rattle.instant_net.specs.Opened.{IsNet};
 ghost use Rattle.instant_net.specs.Readers.{leaf_tells_of};
 ghost use Rattle.instant_net.specs.Words.{store_in, AreWords};
 ghost use Rattle.settle.specs.Ways as ways;
 
-use instant_net::{Atom, Net, Words, runs, value};
-use token_system::entails;
+use instant_net::{Net, Words, has, runs};
 
 /// Whether the leaf is to be told: some cell that it tells has at most this stratum, the words run the leaf, and they
 /// do not yet entail all that it tells.
@@ -44,13 +43,4 @@ fn has_told(net: &Net, words: &Words, leaf: u32) -> bool
         }
     }
     true
-}
-
-// Whether the words entail the token.
-fn has(net: &Net, words: &Words, atom: Atom) -> bool
-    requires fits { AtomFits net.now.cells atom }
-    requires words { AreWords net.now.cells words.now }
-    ensures { result ≡ entails_of (store_in net.now.cells words.now) (named_atoms net.now.cells (atom ∷ [])) }
-{
-    entails(value(net, words, atom.cell), atom.token)
 }

@@ -84,8 +84,8 @@ pub fn holds(net: &Net, words: &Words, guard: u32) -> bool
     true
 }
 
-// Whether the words entail the token.
-fn has(net: &Net, words: &Words, atom: Atom) -> bool
+/// Whether the words entail the token.
+pub fn has(net: &Net, words: &Words, atom: Atom) -> bool
     requires fits { AtomFits net.now.cells atom }
     requires words { AreWords net.now.cells words.now }
     ensures { result ≡ named_leaves.named_entails (store_in net.now.cells words.now) (named_atoms net.now.cells (atom ∷ [])) }
