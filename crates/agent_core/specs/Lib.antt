@@ -1,3 +1,4 @@
+pub mod Limits
 pub mod Programs
 pub mod Agents
 pub mod Listing

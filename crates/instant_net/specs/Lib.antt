@@ -1,3 +1,4 @@
+pub mod Limits
 pub mod NamedLeaves
 pub mod Occurrences
 pub mod Nets

@@ -18,6 +18,7 @@ use Rattle.instant_net.specs.declared.parts.NetLeaf.{NetLeaf}
 use Rattle.instant_net.specs.NamedLeaves.{names_of}
 use Rattle.instant_net.specs.Nets.{Flat, net_leaves, net_occurrences, IsAtOrAbove, IsWholeNet}
 use Rattle.instant_net.specs.Programs.{root_leaves, root_occurrences}
+use Rattle.instant_net.specs.Limits.{most_leaves}
 use Rattle.instant_net.specs.Links.{AreLinkedAsRoots}
 use Rattle.instant_net.specs.Words.{AreLaidOut, hows}
 
@@ -66,7 +67,7 @@ pub record IsNetOf (p : CoreProgram) (table : List ℕ) (rs : List Closure) (t :
 
 -- all numbers of parts fit into 32 bits, and there are at most as many leaves as an instant may have
 pub record IsSmallNet (net : Flat) : Type 0 where
-  pub leaves : length net.leaves ≤ 65536
+  pub leaves : length net.leaves ≤ most_leaves
   pub guards : length net.guards < 4294967296
   pub cells : length net.cells < 4294967296
   pub words : length (hows net.cells) < 4294967296

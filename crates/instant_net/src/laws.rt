@@ -1,5 +1,15 @@
 //! Laws of nets. Each is a function that computes nothing, and its contract is the law.
+ghost use Rattle.std.specs.Prelude.{◌≡◌};
+ghost use Rattle.instant_net.specs.Limits.{most_leaves, most_roots};
 ghost use Rattle.instant_net.specs.Laws.{NetsAreStratified, NetsHaveRootOutputs, NetsRestByLeaves, NetsRestByRoots, RootsHaveOneNet};
+
+use crate::opening::{MAX_LEAVES, MAX_ROOTS};
+
+/// The limits of the code are those of the definitions.
+pub fn net_limits_law()
+    ensures leaves { MAX_LEAVES ≡ most_leaves }
+    ensures roots { MAX_ROOTS ≡ most_roots }
+{}
 
 /// The net of any roots is stratified where the table stratifies the program: each told cell has at least the stratum
 /// of each cell that is asked for above it, and a greater one where an else asks.

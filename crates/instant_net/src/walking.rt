@@ -7,6 +7,7 @@ ghost use Rattle.agent_core.specs.WellFormed.{IsWellFormed};
 ghost use Rattle.agent_core.specs.Names.{IsClosure};
 ghost use Rattle.agent_core.specs.Scope.{TokenFits, ConstraintFits};
 ghost use Rattle.agent_laws.specs.Laws.{AreClosures};
+ghost use Rattle.instant_net.specs.Limits.{most_roots};
 ghost use Rattle.instant_net.specs.declared.parts.NetGuard.{NetGuard as GuardValue};
 ghost use Rattle.instant_net.specs.Opened.{AreInOrder};
 ghost use Rattle.instant_net.specs.Collecting.{cell_names};
@@ -217,7 +218,7 @@ pub(crate) fn net_parts(
     requires named { AreNamed program.now locals.now cells.now }
     requires closures { AreClosures program.now roots.now }
     requires program { IsWellFormed program.now }
-    requires few { length roots.now ≤ 131072 }
+    requires few { length roots.now ≤ most_roots }
     requires covered { RootsCovered program.now t (cell_names cells.now) roots.now }
     ensures { IfOk result (λ parts. AreListedFor program.now cells.now t roots.now parts.guards.items parts.leaves.items) }
 {

@@ -6,6 +6,7 @@ use Rattle.agent_core.specs.Programs.{CoreProgram}
 use Rattle.agent_core.specs.Closures.{closure_cmp, sorted}
 use Rattle.agent_core.specs.Strata.{In}
 use Rattle.agent_laws.specs.NextRoots.{stays}
+use Rattle.instant_net.specs.Limits.{most_roots}
 
 -- what roots are seen as
 pub record RootLists : Type 0 where
@@ -21,7 +22,7 @@ pub record AreRootLists (roots : RootLists) : Type 0 where
   pub once : IsStrictlySortedBy closure_cmp roots.once
   pub stay : IsStrictlySortedBy closure_cmp roots.stay
   pub apart : (c : Closure) → In c roots.once → In c roots.stay → ⊥
-  pub few : length roots.once + length roots.stay ≤ 131072
+  pub few : length roots.once + length roots.stay ≤ most_roots
 
 abbrev pub goes : CoreProgram → Closure → Bool
 goes p r = not (stays p r)

@@ -3,6 +3,7 @@ ghost use Rattle.std.specs.Prelude.{◌≡◌, ◌+◌, ◌≤◌, ◌↔◌, []
 ghost use Rattle.std.specs.List.Sorted.{IsStrictlySortedBy};
 ghost use Rattle.agent_core.specs.Programs.{CoreProgram};
 ghost use Rattle.agent_core.specs.Closures.{closure, closure_cmp, roots};
+ghost use Rattle.instant_net.specs.Limits.{most_roots};
 ghost use Rattle.residuals.specs.RootLists.{listed_roots, AreRootLists, AreRootsOf};
 
 use crate::closures::{add_copies, sort};
@@ -19,7 +20,8 @@ pub struct Roots {
 }
 
 impl Model for Roots {
-    ghost use Rattle.residuals.specs.RootLists.{RootLists, AreRootLists};
+    ghost use Rattle.instant_net.specs.Limits.{most_roots};
+ghost use Rattle.residuals.specs.RootLists.{RootLists, AreRootLists};
 
     ghost Value = { RootLists };
 
@@ -72,7 +74,7 @@ impl Roots {
         ensures all { IfOk result (λ list. list.items ≡ listed_roots self.now) }
         ensures sorted { IsStrictlySortedBy closure_cmp (listed_roots self.now) }
         ensures bounded { length (listed_roots self.now) ≡ length self.now.once + length self.now.stay }
-        ensures within { length (listed_roots self.now) ≤ 131072 }
+        ensures within { length (listed_roots self.now) ≤ most_roots }
     {
         let mut list = Vec::new(alloc);
         add_copies(&mut list, self.once())?;

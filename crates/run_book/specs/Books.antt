@@ -3,6 +3,7 @@ use Rattle.std.specs.Prelude.{◌≡◌, ℕ, ◌≤◌, List, [], ◌∷◌, �
 use Rattle.token_system.specs.Stores.{StoreMap}
 use Rattle.agent_core.specs.Programs.{CoreProgram}
 use Rattle.agent_core.specs.WellFormed.{IsWellFormed}
+use Rattle.agent_core.specs.Limits.{most_instants}
 use Rattle.agent_core.specs.Stores.{IsInput}
 use Rattle.agent_core.specs.Outputs.{IsRun}
 use Rattle.agent_core.specs.Closures as closures
@@ -29,7 +30,7 @@ pub record IsBook (b : BookView) : Type 0 where
   pub program : IsWellFormed b.program
   pub stratified : Stratifies b.program b.levels
   pub inputs : All (IsInput b.program) b.ins
-  pub few : length b.ins ≤ 65536
+  pub few : length b.ins ≤ most_instants
   pub full : List StoreMap
   pub keeps : KeepsRun b full
 

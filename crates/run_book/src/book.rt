@@ -2,6 +2,7 @@
 ghost use Rattle.std.specs.Prelude.{◌≡◌, ◌∷◌, ◌++◌, ◌<◌, [], List, length, if◌then◌else◌, is_ok, IfOk, OnErr, OnOk};
 ghost use Rattle.token_system.specs.Stores.{StoreMap};
 ghost use Rattle.agent_core.specs.Closures.{closure};
+ghost use Rattle.agent_core.specs.Limits.{most_instants};
 ghost use Rattle.agent_core.specs.Stores.{IsInput};
 ghost use Rattle.agent_core.specs.Strata.{Stratifies};
 ghost use Rattle.instant_net.specs.Opened.{IsNetOf};
@@ -113,7 +114,7 @@ impl Book {
         input: Store,
         words: &Words,
     ) -> Result<(), Memory>
-        requires room { length self.old.ins < 65536 }
+        requires room { length self.old.ins < most_instants }
         requires net { IsNetOf self.old.program self.old.levels (listed_roots self.old.roots) (length self.old.ins) net.now }
         requires input { IsInput self.old.program input }
         requires words { AreWords net.now.cells words.now }
