@@ -21,7 +21,7 @@ pub struct Roots {
 
 impl Model for Roots {
     ghost use Rattle.instant_net.specs.Limits.{most_roots};
-ghost use Rattle.residuals.specs.RootLists.{RootLists, AreRootLists};
+    ghost use Rattle.residuals.specs.RootLists.{RootLists, AreRootLists};
 
     ghost Value = { RootLists };
 
