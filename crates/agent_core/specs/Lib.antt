@@ -1,3 +1,4 @@
+pub mod Limits
 pub mod Programs
 pub mod Agents
 pub mod Listing
@@ -14,5 +15,6 @@ pub mod Outputs
 pub mod Closures
 pub mod Leaves
 pub mod Strata
+pub mod StrataCounts
 pub mod RootOutputs
 pub mod Worked

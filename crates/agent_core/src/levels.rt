@@ -1,4 +1,5 @@
 ghost use Rattle.std.specs.Prelude.{◌≡◌, ◌<◌, All};
+ghost use Rattle.agent_core.specs.StrataCounts.{strata_of};
 
 use std::marker::Model;
 
@@ -33,5 +34,16 @@ impl Levels {
         ensures small { All (λ n. n < 1024) self.now }
     {
         self.list.as_slice()
+    }
+
+    /// How many strata there are: the greatest of the numbers plus one, or 0 where there are none.
+    pub fn strata(&self) -> u32
+        ensures { result ≡ strata_of self.now }
+    {
+        let mut strata = 0;
+        for level in self.list() {
+            strata = strata.max(*level + 1);
+        }
+        strata
     }
 }

@@ -8,24 +8,24 @@ use Rattle.token_system.specs.Values.{value_entails, OfOneKind, IsValueOf}
 use Rattle.token_system.proofs.Adding.{kinds_agree}
 use Rattle.instant_net.specs.declared.parts.Atom.{Atom}
 use Rattle.instant_net.specs.declared.parts.NetCell.{NetCell}
-use Rattle.instant_net.specs.NamedLeaves.{entails}
-use Rattle.instant_net.specs.Nets.{named, named_at, AtomFits}
+use Rattle.instant_net.specs.NamedLeaves.{named_entails}
+use Rattle.instant_net.specs.Nets.{named_atoms, named_at, AtomFits}
 
 -- one more token of the ask
-pub entails_next : (cells : List NetCell) (u : StoreMap) (a : Atom) (atoms : List Atom) → entails u (named cells (a ∷ atoms)) ≡ (entails u (named cells (a ∷ [])) && entails u (named cells atoms))
+pub entails_next : (cells : List NetCell) (u : StoreMap) (a : Atom) (atoms : List Atom) → named_entails u (named_atoms cells (a ∷ atoms)) ≡ (named_entails u (named_atoms cells (a ∷ [])) && named_entails u (named_atoms cells atoms))
 entails_next cells u a atoms = go (slice_get cells a.cell)
   where
     both : (b c : Bool) → (b && c) ≡ ((b && true) && c)
     both true c = refl
     both false c = refl
 
-    go : (o : Option NetCell) → entails u (named_at o a ++ named cells atoms) ≡ (entails u (named_at o a ++ []) && entails u (named cells atoms))
+    go : (o : Option NetCell) → named_entails u (named_at o a ++ named_atoms cells atoms) ≡ (named_entails u (named_at o a ++ []) && named_entails u (named_atoms cells atoms))
     go None = refl
-    go (Some c) = both (store_entails u c.name c.cell a.token) (entails u (named cells atoms))
+    go (Some c) = both (store_entails u c.name c.cell a.token) (named_entails u (named_atoms cells atoms))
 
 -- one token alone
-pub entails_one : (cells : List NetCell) (u : StoreMap) (a : Atom) (f : AtomFits cells a) → entails u (named cells (a ∷ [])) ≡ value_entails (value_at u f.0.name f.0.cell) a.token
-entails_one cells u a f = ap (λ o. entails u (named_at o a ++ [])) f.1 ∙ alone (store_entails u f.0.name f.0.cell a.token)
+pub entails_one : (cells : List NetCell) (u : StoreMap) (a : Atom) (f : AtomFits cells a) → named_entails u (named_atoms cells (a ∷ [])) ≡ value_entails (value_at u f.0.name f.0.cell) a.token
+entails_one cells u a f = ap (λ o. named_entails u (named_at o a ++ [])) f.1 ∙ alone (store_entails u f.0.name f.0.cell a.token)
   where
     alone : (b : Bool) → (b && true) ≡ b
     alone true = refl
@@ -36,20 +36,20 @@ of_one_kind cells a v f is = kinds_agree f.0.cell.kind f.0.cell.lo f.0.cell.hi v
 
 -- the answer for the whole is that for the atoms from place i on
 abbrev pub IsLeft : List NetCell → StoreMap → List Atom → ℕ → Type 0
-IsLeft cells u items i = entails u (named cells (drop i items)) ≡ entails u (named cells items)
+IsLeft cells u items i = named_entails u (named_atoms cells (drop i items)) ≡ named_entails u (named_atoms cells items)
 
 module _ (cells : List NetCell) (u : StoreMap) (items : List Atom) (i : ℕ) (d : Atom) (left : IsLeft cells u items i) where
-  here : i < length items → entails u (named cells items) ≡ (entails u (named cells (get_or items i d ∷ [])) && entails u (named cells (drop (i + 1) items)))
+  here : i < length items → named_entails u (named_atoms cells items) ≡ (named_entails u (named_atoms cells (get_or items i d ∷ [])) && named_entails u (named_atoms cells (drop (i + 1) items)))
   here h =
       sym left
-      ∙ ap (λ xs. entails u (named cells xs)) (drop-cons items i d h ∙ ap (λ n. get_or items i d ∷ drop n items) (sym (add-one i)))
+      ∙ ap (λ xs. named_entails u (named_atoms cells xs)) (drop-cons items i d h ∙ ap (λ n. get_or items i d ∷ drop n items) (sym (add-one i)))
       ∙ entails_next cells u (get_or items i d) (drop (i + 1) items)
 
-  pub left_next : i < length items → (b : Bool) → b ≡ entails u (named cells (get_or items i d ∷ [])) → b ≡ true → IsLeft cells u items (i + 1)
-  left_next h b e t = sym (here h ∙ ap (λ x. x && entails u (named cells (drop (i + 1) items))) (sym e ∙ t))
+  pub left_next : i < length items → (b : Bool) → b ≡ named_entails u (named_atoms cells (get_or items i d ∷ [])) → b ≡ true → IsLeft cells u items (i + 1)
+  left_next h b e t = sym (here h ∙ ap (λ x. x && named_entails u (named_atoms cells (drop (i + 1) items))) (sym e ∙ t))
 
-  pub left_fails : i < length items → (b : Bool) → b ≡ entails u (named cells (get_or items i d ∷ [])) → b ≡ false → false ≡ entails u (named cells items)
-  left_fails h b e f = sym (here h ∙ ap (λ x. x && entails u (named cells (drop (i + 1) items))) (sym e ∙ f))
+  pub left_fails : i < length items → (b : Bool) → b ≡ named_entails u (named_atoms cells (get_or items i d ∷ [])) → b ≡ false → false ≡ named_entails u (named_atoms cells items)
+  left_fails h b e f = sym (here h ∙ ap (λ x. x && named_entails u (named_atoms cells (drop (i + 1) items))) (sym e ∙ f))
 
-pub left_ends : (cells : List NetCell) (u : StoreMap) (items : List Atom) (i : ℕ) → IsLeft cells u items i → length items ≤ i → true ≡ entails u (named cells items)
-left_ends cells u items i left h = ap (λ xs. entails u (named cells xs)) (sym (drop_all i items h)) ∙ left
+pub left_ends : (cells : List NetCell) (u : StoreMap) (items : List Atom) (i : ℕ) → IsLeft cells u items i → length items ≤ i → true ≡ named_entails u (named_atoms cells items)
+left_ends cells u items i left h = ap (λ xs. named_entails u (named_atoms cells xs)) (sym (drop_all i items h)) ∙ left

@@ -15,9 +15,9 @@ use Rattle.agent_core.specs.Scope.{TokenFits, ConstraintFits}
 use Rattle.agent_core.proofs.OneStore.{Names-one}
 use Rattle.instant_net.specs.declared.parts.Atom.{Atom}
 use Rattle.instant_net.specs.declared.parts.NetCell.{NetCell}
-use Rattle.instant_net.specs.Nets.{AtomFits, named_at, named}
+use Rattle.instant_net.specs.Nets.{AtomFits, named_at, named_atoms}
 use Rattle.instant_net.specs.Programs.{token_named, constraint_named}
-use Rattle.instant_net.specs.Walks.{IsNamed, IsPlaceOf, IsAtomOf, AreAtomsOf}
+use Rattle.instant_net.specs.Walks.{IsCellOfName, IsPlaceOfName, IsAtomOf, AreAtomsOf}
 use Rattle.instant_net.proofs.Lists.{same-elements}
 
 -- what holds of the value of an answer
@@ -31,9 +31,9 @@ if_both P Q R (Err e) f h g = tt
 
 module _ (p : CoreProgram) (cells : List NetCell) (b : List ℕ) where
   -- the token at the place that was found for its name
-  pub atom-at : All (IsNamed p) cells → (x : ℕ × Token) → TokenFits p b x → (n : CellName) → n ≡ name_of p b x.0 → (place : ℕ) → IsPlaceOf cells n place → IsAtomOf p cells b x (record { cell = place; token = x.1 })
+  pub atom-at : All (IsCellOfName p) cells → (x : ℕ × Token) → TokenFits p b x → (n : CellName) → n ≡ name_of p b x.0 → (place : ℕ) → IsPlaceOfName cells n place → IsAtomOf p cells b x (record { cell = place; token = x.1 })
   atom-at each x f n is place at =
-      let found : IsNamed p at.found = All-contains (IsNamed p) cells at.found each (same-elements cells at.found place at.stands) in
+      let found : IsCellOfName p at.found = All-contains (IsCellOfName p) cells at.found each (same-elements cells at.found place at.stands) in
       let called : at.found.name ≡ name_of p b x.0 = at.named ∙ is in
       let decl : found.decl ≡ f.decl = Names-one p (name_of p b x.0) found.decl f.decl (subst (λ (q : CellName). Names p q found.decl) called found.named) f.named in
       let cell : at.found.cell ≡ f.decl.cell = found.cell ∙ ap (λ (d : CellDecl). d.cell) decl in
@@ -46,9 +46,9 @@ module _ (p : CoreProgram) (cells : List NetCell) (b : List ℕ) where
         fits = (at.found, at.stands, subst (λ (c : Cell). Fits c x.1) (sym cell) f.fits);
       }
 
-  named-append : (xs ys : List Atom) → named cells (xs ++ ys) ≡ named cells xs ++ named cells ys
+  named-append : (xs ys : List Atom) → named_atoms cells (xs ++ ys) ≡ named_atoms cells xs ++ named_atoms cells ys
   named-append [] ys = refl
-  named-append (x ∷ xs) ys = ap (λ zs. named_at (slice_get cells x.cell) x ++ zs) (named-append xs ys) ∙ sym (append_assoc (named_at (slice_get cells x.cell) x) (named cells xs) (named cells ys))
+  named-append (x ∷ xs) ys = ap (λ zs. named_at (slice_get cells x.cell) x ++ zs) (named-append xs ys) ∙ sym (append_assoc (named_at (slice_get cells x.cell) x) (named_atoms cells xs) (named_atoms cells ys))
 
   ask_named-append : (xs ys : Constraint) → constraint_named p b (xs ++ ys) ≡ constraint_named p b xs ++ constraint_named p b ys
   ask_named-append [] ys = refl
@@ -57,7 +57,7 @@ module _ (p : CoreProgram) (cells : List NetCell) (b : List ℕ) where
       ∙ sym (append_assoc (token_named p b x.0 x.1 (slice_get p.cells x.0)) (constraint_named p b xs) (constraint_named p b ys))
 
   pub atoms-none : (items : Constraint) (atoms : List Atom) → atoms ≡ [] → AreAtomsOf p cells b (take 0 items) atoms
-  atoms-none items atoms e = record { same = ap (named cells) e; fit = subst (All (AtomFits cells)) (sym e) (All-nil (AtomFits cells)) }
+  atoms-none items atoms e = record { same = ap (named_atoms cells) e; fit = subst (All (AtomFits cells)) (sym e) (All-nil (AtomFits cells)) }
 
   pub atoms-next : (items : Constraint) (i : ℕ) (x : ℕ × Token) (atoms atoms' : List Atom) (a : Atom) → i < length items → AreAtomsOf p cells b (take i items) atoms → IsAtomOf p cells b (get_or items i x) a → atoms' ≡ atoms ++ a ∷ []
       → AreAtomsOf p cells b (take (i + 1) items) atoms'
@@ -65,7 +65,7 @@ module _ (p : CoreProgram) (cells : List NetCell) (b : List ℕ) where
       let y : ℕ × Token = get_or items i x in
       record {
         same =
-            ap (named cells) e ∙ named-append atoms (a ∷ [])
+            ap (named_atoms cells) e ∙ named-append atoms (a ∷ [])
             ∙ ap (λ zs. zs ++ (named_at (slice_get cells a.cell) a ++ [])) h.same
             ∙ ap (λ zs. constraint_named p b (take i items) ++ (zs ++ [])) one.same
             ∙ sym (ask_named-append (take i items) (y ∷ []))

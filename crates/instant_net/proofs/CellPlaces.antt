@@ -11,25 +11,25 @@ use Rattle.token_system.specs.declared.name.CellName.{CellName}
 use Rattle.token_system.specs.Names.{name_cmp, name_total, name_cmp-IsAntisymmetric}
 use Rattle.instant_net.specs.declared.parts.NetCell.{NetCell}
 use Rattle.instant_net.specs.Opened.{AreInOrder}
-use Rattle.instant_net.specs.Walks.{IsPlaceOf}
+use Rattle.instant_net.specs.Walks.{IsPlaceOfName}
 use Rattle.instant_net.specs.Collecting.{cell_names}
 use Rattle.instant_net.proofs.StoreLookups.{names_rise}
 
 -- a name of the cells has a place among them
-pub has-place : (cells : List NetCell) (n : CellName) → Contains (cell_names cells) n → (k : ℕ) × IsPlaceOf cells n k
+pub has-place : (cells : List NetCell) (n : CellName) → Contains (cell_names cells) n → (k : ℕ) × IsPlaceOfName cells n k
 has-place [] n (k, lt, e) = absurd (omega arith)
 has-place (c ∷ cells) n (zero, lt, e) = (0, record { found = c; stands = refl; named = e })
 has-place (c ∷ cells) n (suc k, lt, e) = let h = has-place cells n (k, omega arith, e) in (suc h.0, record { found = h.1.found; stands = h.1.stands; named = h.1.named })
 
 -- a place at which a search found the name
-pub place-found : (cells : List NetCell) (n : CellName) (i : ℕ) → i < length cells → ((d : NetCell) → name_cmp (get_or cells i d).name n ≡ Equal) → IsPlaceOf cells n i
+pub place-found : (cells : List NetCell) (n : CellName) (i : ℕ) → i < length cells → ((d : NetCell) → name_cmp (get_or cells i d).name n ≡ Equal) → IsPlaceOfName cells n i
 place-found cells n i lt equal = go (slice_get_cases cells i).1
   where
-    go : ((x : NetCell) × (i < length cells) × (slice_get cells i ≡ Some x) × (get_or cells i x ≡ x)) ⊎ ((length cells ≤ i) × (slice_get cells i ≡ None)) → IsPlaceOf cells n i
+    go : ((x : NetCell) × (i < length cells) × (slice_get cells i ≡ Some x) × (get_or cells i x ≡ x)) ⊎ ((length cells ≤ i) × (slice_get cells i ≡ None)) → IsPlaceOfName cells n i
     go (inl h) = record { found = h.0; stands = h.2; named = name_cmp-IsAntisymmetric h.0.name n (subst (λ (c : NetCell). name_cmp c.name n ≡ Equal) h.3 (equal h.0)) }
     go (inr h) = absurd (let le = h.0 in omega arith)
 
-module _ (cells : List NetCell) (order : AreInOrder cells) (n : CellName) (k : ℕ) (at : IsPlaceOf cells n k) where
+module _ (cells : List NetCell) (order : AreInOrder cells) (n : CellName) (k : ℕ) (at : IsPlaceOfName cells n k) where
   abbrev index : NetCell → ℕ
   index c = ordering_index (name_cmp c.name n)
 

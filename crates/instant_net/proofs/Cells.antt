@@ -18,7 +18,7 @@ use Rattle.agent_core.specs.WellFormed.{IsWellFormed}
 use Rattle.agent_core.specs.Names.{Names}
 use Rattle.agent_laws.specs.Ways.{new_cell, cell_named}
 use Rattle.instant_net.specs.declared.parts.NetCell.{NetCell}
-use Rattle.instant_net.specs.NamedLeaves.{Leaf, names_of}
+use Rattle.instant_net.specs.NamedLeaves.{NamedLeaf, names_of}
 use Rattle.instant_net.specs.Opened.{IsCellOf, AreInOrder}
 use Rattle.instant_net.specs.Words.{AreLaidOut, hows, kind_hows}
 use Rattle.instant_net.specs.Collecting.{IsLocal, IsSpokenBy, cell_names, declared_names, IsRow, AreCellsFor}
@@ -148,12 +148,12 @@ all-unmap P [] h k d lt = absurd (omega arith)
 all-unmap P (c ∷ cells) h zero d lt = h 0 c.name (omega arith)
 all-unmap P (c ∷ cells) h (suc k) d lt = all-unmap P cells (λ j n lt'. h (suc j) n (omega arith)) k d (omega arith)
 
-declared-each : (ls : List Leaf) (n : ℕ) → All (λ q. ((k : ℕ) × (q ≡ Declared k)) ⊎ Contains (flat_map names_of ls) q) (declared_names n)
+declared-each : (ls : List NamedLeaf) (n : ℕ) → All (λ q. ((k : ℕ) × (q ≡ Declared k)) ⊎ Contains (flat_map names_of ls) q) (declared_names n)
 declared-each ls zero = All-nil (λ q. ((k : ℕ) × (q ≡ Declared k)) ⊎ Contains (flat_map names_of ls) q)
 declared-each ls (suc n) = All-push (λ q. ((k : ℕ) × (q ≡ Declared k)) ⊎ Contains (flat_map names_of ls) q) (declared_names n) (Declared n) (declared-each ls n) (inl (n, refl))
 
 -- the row of the declared cells and of the local ones that leaves speak of
-pub cells-are : (p : CoreProgram) (table : List ℕ) (ls : List Leaf) (cells : List NetCell) (words : ℕ) (names : List CellName) → IsWellFormed p → IsRow p table cells words → cell_names cells ≡ declared_names p.declared ++ names
+pub cells-are : (p : CoreProgram) (table : List ℕ) (ls : List NamedLeaf) (cells : List NetCell) (words : ℕ) (names : List CellName) → IsWellFormed p → IsRow p table cells words → cell_names cells ≡ declared_names p.declared ++ names
     → All (IsSpokenBy p ls) names → IsStrictlySortedBy name_cmp names → length cells < 4294967296 → AreCellsFor p table ls cells
 cells-are p table ls cells words names is row same spoken order few =
     let P : CellName → Type 0 = λ q. ((k : ℕ) × (q ≡ Declared k)) ⊎ Contains (flat_map names_of ls) q in

@@ -14,14 +14,13 @@ use Rattle.agent_core.specs.Listing.{size}
 use Rattle.agent_core.specs.Leaves as core
 use Rattle.agent_core.proofs.Places.{size-within, node_of_listing}
 use Rattle.agent_core.proofs.Scopes.{placed}
-use Rattle.instant_net.specs.Opened as opened
-use Rattle.instant_net.specs.Programs.{leaf_named, root_leaves, leaf_count}
+use Rattle.instant_net.specs.Programs.{leaf_named, root_leaves, agent_leaf_count}
 
 pub length-map : {X Y : Type 0} (f : X → Y) (xs : List X) → length (map f xs) ≡ length xs
 length-map f [] = refl
 length-map f (x ∷ xs) = ap suc (length-map f xs)
 
-count-size : (a : Agent) → leaf_count a ≤ size a
+count-size : (a : Agent) → agent_leaf_count a ≤ size a
 count-size Skip = omega arith
 count-size (Tell c) = omega arith
 count-size (Then c a) = let h = count-size a in omega arith
@@ -31,7 +30,7 @@ count-size (New cell a) = let h = count-size a in omega arith
 count-size (Hence a) = omega arith
 count-size (Next a) = omega arith
 
-pub leaf_count-is : (t : ℕ) (a : Agent) (n : ℕ) (b : List ℕ) (path : List core.Guard) → length (core.leaves_of t a n b path) ≡ leaf_count a
+pub leaf_count-is : (t : ℕ) (a : Agent) (n : ℕ) (b : List ℕ) (path : List core.Guard) → length (core.leaves_of t a n b path) ≡ agent_leaf_count a
 leaf_count-is t Skip n b path = refl
 leaf_count-is t (Tell c) n b path = refl
 leaf_count-is t (Then c a) n b path = leaf_count-is t a (suc n) b (path ++ core.Positive b c ∷ [])
@@ -45,7 +44,7 @@ leaf_count-is t (Hence a) n b path = refl
 leaf_count-is t (Next a) n b path = refl
 
 -- a node has few leaves
-pub few_leaves : (p : CoreProgram) → IsWellFormed p → (n : ℕ) → n < length p.nodes → leaf_count (agent_at p.nodes n) ≤ 4096
+pub few_leaves : (p : CoreProgram) → IsWellFormed p → (n : ℕ) → n < length p.nodes → agent_leaf_count (agent_at p.nodes n) ≤ 4096
 few_leaves p is n lt =
     let at = placed p is n lt in
     let within = (size-within p.nodes n at.0 (agent_at p.nodes n) at.1.place).1 in
@@ -54,15 +53,15 @@ few_leaves p is n lt =
     omega arith
 
 -- the leaves of a node are those of its parts
-pub count-node : (p : CoreProgram) → IsWellFormed p → (n : ℕ) (node : Node) → slice_get p.nodes n ≡ Some node → leaf_count (agent_of (agent_at p.nodes) node) ≡ leaf_count (agent_at p.nodes n)
-count-node p is n node found = ap leaf_count (sym (node_of_listing p.nodes is.tree n node found).tree)
+pub count-node : (p : CoreProgram) → IsWellFormed p → (n : ℕ) (node : Node) → slice_get p.nodes n ≡ Some node → agent_leaf_count (agent_of (agent_at p.nodes) node) ≡ agent_leaf_count (agent_at p.nodes n)
+count-node p is n node found = ap agent_leaf_count (sym (node_of_listing p.nodes is.tree n node found).tree)
 
 -- so many leaves have been counted of the first i roots
 pub record AreCounted (p : CoreProgram) (roots : List Closure) (i leaves : ℕ) : Type 0 where
   pub rest : (t : ℕ) → leaves + length (root_leaves p (drop i roots) t) ≡ length (root_leaves p roots t)
   pub few : leaves ≤ 4096 * i
 
-pub length-first : (p : CoreProgram) (r : Closure) (rs : List Closure) (t : ℕ) → length (root_leaves p (r ∷ rs) t) ≡ leaf_count (agent_at p.nodes r.node) + length (root_leaves p rs t)
+pub length-first : (p : CoreProgram) (r : Closure) (rs : List Closure) (t : ℕ) → length (root_leaves p (r ∷ rs) t) ≡ agent_leaf_count (agent_at p.nodes r.node) + length (root_leaves p rs t)
 length-first p r rs t =
     let here : List core.Leaf = core.leaves_of t (agent_at p.nodes r.node) r.node r.births [] in
     let x = leaf_count-is t (agent_at p.nodes r.node) r.node r.births [] in
@@ -71,7 +70,7 @@ length-first p r rs t =
     omega (arith, length-append here (core.leaves p rs t))
 
 pub AreCounted-next : (p : CoreProgram) (roots : List Closure) (i leaves count : ℕ) (r : Closure) → AreCounted p roots i leaves → i < length roots → r ≡ get_or roots i r
-    → count ≡ leaf_count (agent_at p.nodes r.node) → count ≤ 4096 → AreCounted p roots (i + 1) (leaves + count)
+    → count ≡ agent_leaf_count (agent_at p.nodes r.node) → count ≤ 4096 → AreCounted p roots (i + 1) (leaves + count)
 AreCounted-next p roots i leaves count r h lt is e le = record {
   rest = λ t.
       let one : drop i roots ≡ r ∷ drop (i + 1) roots = drop_more roots i r lt ∙ ap (λ x. x ∷ drop (i + 1) roots) (sym is) in
@@ -86,19 +85,6 @@ pub AreCounted-all : (p : CoreProgram) (roots : List Closure) (i leaves : ℕ) �
 AreCounted-all p roots i leaves h le t =
     let x = ap (λ rs. length (root_leaves p rs t)) (drop_all i roots le) in
     let z = h.rest t in
-    omega arith
-
--- STRATA
-
-pub strata-next : (table : List ℕ) (i strata d : ℕ) → i < length table → max strata (opened.strata_of (drop i table)) ≡ opened.strata_of table
-    → max (max strata (get_or table i d + 1)) (opened.strata_of (drop (i + 1) table)) ≡ opened.strata_of table
-strata-next table i strata d lt h =
-    let one = ap opened.strata_of (drop_more table i d lt) in
-    omega arith
-
-pub strata-all : (table : List ℕ) (i strata : ℕ) → length table ≤ i → max strata (opened.strata_of (drop i table)) ≡ opened.strata_of table → strata ≡ opened.strata_of table
-strata-all table i strata le h =
-    let one = ap opened.strata_of (drop_all i table le) in
     omega arith
 
 -- NODES
@@ -131,15 +117,15 @@ module _ (p : CoreProgram) (is : IsWellFormed p) (n : ℕ) where
   pub part-right : (l r : ℕ) → slice_get p.nodes n ≡ Some (nodes.Par l r) → HasPart p n r
   part-right l r found = part-of _ r (node_of_listing p.nodes is.tree n (nodes.Par l r) found).parts.1
 
-  pub count-par : (l r : ℕ) → slice_get p.nodes n ≡ Some (nodes.Par l r) → leaf_count (agent_at p.nodes l) + leaf_count (agent_at p.nodes r) ≡ leaf_count (agent_at p.nodes n)
+  pub count-par : (l r : ℕ) → slice_get p.nodes n ≡ Some (nodes.Par l r) → agent_leaf_count (agent_at p.nodes l) + agent_leaf_count (agent_at p.nodes r) ≡ agent_leaf_count (agent_at p.nodes n)
   count-par l r found = count-node p is n (nodes.Par l r) found
 
-  pub count-body : (d : Node) (m : ℕ) → slice_get p.nodes n ≡ Some d → HasBody d m → leaf_count (agent_at p.nodes m) ≡ leaf_count (agent_at p.nodes n)
+  pub count-body : (d : Node) (m : ℕ) → slice_get p.nodes n ≡ Some d → HasBody d m → agent_leaf_count (agent_at p.nodes m) ≡ agent_leaf_count (agent_at p.nodes n)
   count-body d m found (inl e) = count-node p is n (nodes.Then e.0 m) (found ∙ ap Some e.1)
   count-body d m found (inr (inl e)) = count-node p is n (nodes.Else e.0 m) (found ∙ ap Some e.1)
   count-body d m found (inr (inr e)) = count-node p is n (nodes.New e.0 m) (found ∙ ap Some e.1)
 
-  pub one-leaf : (d : Node) → slice_get p.nodes n ≡ Some d → (d ≡ nodes.Skip) ⊎ (((c : Constraint) × (d ≡ nodes.Tell c)) ⊎ (((m : ℕ) × (d ≡ nodes.Hence m)) ⊎ ((m : ℕ) × (d ≡ nodes.Next m)))) → 1 ≡ leaf_count (agent_at p.nodes n)
+  pub one-leaf : (d : Node) → slice_get p.nodes n ≡ Some d → (d ≡ nodes.Skip) ⊎ (((c : Constraint) × (d ≡ nodes.Tell c)) ⊎ (((m : ℕ) × (d ≡ nodes.Hence m)) ⊎ ((m : ℕ) × (d ≡ nodes.Next m)))) → 1 ≡ agent_leaf_count (agent_at p.nodes n)
   one-leaf d found (inl e) = count-node p is n nodes.Skip (found ∙ ap Some e)
   one-leaf d found (inr (inl e)) = count-node p is n (nodes.Tell e.0) (found ∙ ap Some e.1)
   one-leaf d found (inr (inr (inl e))) = count-node p is n (nodes.Hence e.0) (found ∙ ap Some e.1)

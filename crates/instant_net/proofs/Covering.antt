@@ -23,7 +23,7 @@ use Rattle.agent_core.proofs.Scopes.{scoped_fits, AgentFits-under}
 use Rattle.agent_laws.specs.Laws.{AreClosures}
 use Rattle.instant_net.specs.declared.parts.NetCell.{NetCell}
 use Rattle.instant_net.specs.Collecting.{cell_names, declared_names}
-use Rattle.instant_net.specs.Covering.{TokenCovered, AskCovered, AgentCovered, RootsCovered, Keeps, CoversAsk, CoversNode}
+use Rattle.instant_net.specs.Covering.{TokenCovered, AskCovered, AgentCovered, RootsCovered, KeepsNames, CoversAsk, CoversNode}
 use Rattle.instant_net.proofs.NodeLeaves.{agent-is}
 
 -- A NAME THAT IS INSERTED
@@ -35,11 +35,11 @@ in-tail : (x q : CellName) (xs : List CellName) → Contains xs q → Contains (
 in-tail x q xs (j, lt, e) = (suc j, omega arith, e)
 
 module _ (k : CellName) where
-  insert-keeps : (xs : List CellName) → Keeps xs (insert_key name_cmp xs k)
+  insert-keeps : (xs : List CellName) → KeepsNames xs (insert_key name_cmp xs k)
   insert-keeps [] q h = in-tail k q [] h
   insert-keeps (x ∷ xs) q h = go (name_cmp k x) (insert-keeps xs) h
     where
-      go : (r : Ordering) → Keeps xs (insert_key name_cmp xs k) → Contains (x ∷ xs) q → Contains (match_ordering r (k ∷ x ∷ xs) (x ∷ xs) (x ∷ insert_key name_cmp xs k)) q
+      go : (r : Ordering) → KeepsNames xs (insert_key name_cmp xs k) → Contains (x ∷ xs) q → Contains (match_ordering r (k ∷ x ∷ xs) (x ∷ xs) (x ∷ insert_key name_cmp xs k)) q
       go Less keeps h = in-tail k q (x ∷ xs) h
       go Equal keeps h = h
       go Greater keeps (zero, lt, e) = at-head x q (insert_key name_cmp xs k) e
@@ -57,7 +57,7 @@ module _ (k : CellName) where
 -- ONE CONSTRAINT
 
 module _ (p : CoreProgram) (b : List ℕ) where
-  ask-kept : (before after : List CellName) → Keeps before after → (ask : Constraint) → AskCovered p b before ask → AskCovered p b after ask
+  ask-kept : (before after : List CellName) → KeepsNames before after → (ask : Constraint) → AskCovered p b before ask → AskCovered p b after ask
   ask-kept before after keeps ask h = All-weaker (TokenCovered p b before) (TokenCovered p b after) (λ x covered le. keeps (name_of p b x.0) (covered le)) ask h
 
   pub asks-none : (items : Constraint) (names : List CellName) → CoversAsk p b (take 0 items) names names
@@ -85,7 +85,7 @@ module _ (p : CoreProgram) (b : List ℕ) where
 -- NODES
 
 module _ (p : CoreProgram) (t : ℕ) where
-  agent-kept : (before after : List CellName) → Keeps before after → (a : Agent) (b : List ℕ) → AgentCovered p t before a b → AgentCovered p t after a b
+  agent-kept : (before after : List CellName) → KeepsNames before after → (a : Agent) (b : List ℕ) → AgentCovered p t before a b → AgentCovered p t after a b
   agent-kept before after keeps Skip b h = tt
   agent-kept before after keeps (Tell c) b h = ask-kept p b before after keeps c h
   agent-kept before after keeps (Then c a) b h = (ask-kept p b before after keeps c h.0, agent-kept before after keeps a b h.1)
@@ -100,7 +100,7 @@ module _ (p : CoreProgram) (t : ℕ) where
     pub parts-covered : (node : Node) → slice_get p.nodes n ≡ Some node → (names : List CellName) → AgentCovered p t names (agent_at p.nodes n) b → AgentCovered p t names (agent_of (agent_at p.nodes) node) b
     parts-covered node found names h = subst (λ (a : Agent). AgentCovered p t names a b) (agent-is p is n node found) h
 
-    whole : (node : Node) → slice_get p.nodes n ≡ Some node → (before after : List CellName) → Keeps before after → AgentCovered p t after (agent_of (agent_at p.nodes) node) b → CoversNode p t n b before after
+    whole : (node : Node) → slice_get p.nodes n ≡ Some node → (before after : List CellName) → KeepsNames before after → AgentCovered p t after (agent_of (agent_at p.nodes) node) b → CoversNode p t n b before after
     whole node found before after keeps h = record { keeps = keeps; covers = subst (λ (a : Agent). AgentCovered p t after a b) (sym (agent-is p is n node found)) h }
 
     pub covers-none : (node : Node) → (node ≡ nodes.Skip) ⊎ (((m : ℕ) × (node ≡ nodes.Hence m)) ⊎ ((m : ℕ) × (node ≡ nodes.Next m))) → slice_get p.nodes n ≡ Some node → (names : List CellName) → CoversNode p t n b names names
@@ -115,7 +115,7 @@ module _ (p : CoreProgram) (t : ℕ) where
         → (before mid after : List CellName) → CoversAsk p b c before mid → CoversNode p t m b mid after → CoversNode p t n b before after
     covers-body d c m which found before mid after h h' = go which
       where
-        keeps : Keeps before after
+        keeps : KeepsNames before after
         keeps q had = h'.keeps q (h.keeps q had)
 
         both : AskCovered p b after c × AgentCovered p t after (agent_at p.nodes m) b
@@ -139,7 +139,7 @@ module _ (p : CoreProgram) (t : ℕ) where
   pub roots-covered-none : (names : List CellName) (roots : List Closure) → RootsCovered p t names (take 0 roots)
   roots-covered-none names roots = All-nil (Own names)
 
-  roots-kept : (before after : List CellName) → Keeps before after → (roots : List Closure) → RootsCovered p t before roots → RootsCovered p t after roots
+  roots-kept : (before after : List CellName) → KeepsNames before after → (roots : List Closure) → RootsCovered p t before roots → RootsCovered p t after roots
   roots-kept before after keeps roots h = All-weaker (Own before) (Own after) (λ r x. agent-kept before after keeps (agent_at p.nodes r.node) r.births x) roots h
 
   pub roots-covered-next : (roots : List Closure) (i : ℕ) (r : Closure) (b : List ℕ) (before after : List CellName) → i < length roots → r ≡ get_or roots i r → b ≡ r.births → RootsCovered p t before (take i roots) → CoversNode p t r.node b before after

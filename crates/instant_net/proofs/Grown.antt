@@ -6,90 +6,90 @@ use Rattle.std.proofs.lemmas.Option.{slice_get_within}
 use Rattle.instant_net.specs.declared.parts.NetCell.{NetCell}
 use Rattle.instant_net.specs.declared.parts.NetGuard.{NetGuard}
 use Rattle.instant_net.specs.declared.parts.NetLeaf.{NetLeaf}
-use Rattle.instant_net.specs.NamedLeaves.{Guard, Leaf}
+use Rattle.instant_net.specs.NamedLeaves.{NamedGuard, NamedLeaf}
 use Rattle.instant_net.specs.Occurrences.{Occurrence}
-use Rattle.instant_net.specs.Nets.{AtomFits, named_guard, named_kind, path_to, paths_from, IsAtOrAbove, here, above, IsBelow, atoms_of}
+use Rattle.instant_net.specs.Nets.{AtomFits, named_guard, named_kind, path_to, paths_from, IsAtOrAbove, here, above, IsLinkBelow, atoms_of}
 use Rattle.instant_net.specs.Walks.{Grown, none, leaf, under, beside}
 use Rattle.instant_net.proofs.Lists.{get-append, get-left, get-right}
 
 -- PATHS
 
-pub length-push : (paths : List (List Guard)) (x : List Guard) → length (paths ++ x ∷ []) ≡ suc (length paths)
+pub length-push : (paths : List (List NamedGuard)) (x : List NamedGuard) → length (paths ++ x ∷ []) ≡ suc (length paths)
 length-push [] x = refl
 length-push (y ∷ paths) x = ap suc (length-push paths x)
 
-pub new_path : (paths : List (List Guard)) (x : List Guard) → slice_index_or (paths ++ x ∷ []) (length paths) [] ≡ x
+pub new_path : (paths : List (List NamedGuard)) (x : List NamedGuard) → slice_index_or (paths ++ x ∷ []) (length paths) [] ≡ x
 new_path [] x = refl
 new_path (y ∷ paths) x = new_path paths x
 
 -- a list of paths says of the first k what another one does
-abbrev pub Agree : ℕ → List (List Guard) → List (List Guard) → Type 0
+abbrev pub Agree : ℕ → List (List NamedGuard) → List (List NamedGuard) → Type 0
 Agree k paths all = (j : ℕ) → j < k → slice_index_or all j [] ≡ slice_index_or paths j []
 
-pub path-agree : (k : ℕ) (paths all : List (List Guard)) (last : Option ℕ) → IsBelow k last → Agree k paths all → path_to all last ≡ path_to paths last
+pub path-agree : (k : ℕ) (paths all : List (List NamedGuard)) (last : Option ℕ) → IsLinkBelow k last → Agree k paths all → path_to all last ≡ path_to paths last
 path-agree k paths all None lt same = refl
 path-agree k paths all (Some j) lt same = same j lt
 
-below-more : (last : Option ℕ) (k m : ℕ) → k ≤ m → IsBelow k last → IsBelow m last
+below-more : (last : Option ℕ) (k m : ℕ) → k ≤ m → IsLinkBelow k last → IsLinkBelow m last
 below-more None k m le h = tt
 below-more (Some j) k m le h = omega arith
 
 module _ (cells : List NetCell) where
-  pub length-paths : (paths : List (List Guard)) (guards : List NetGuard) → length (paths_from cells paths guards) ≡ length paths + length guards
+  pub length-paths : (paths : List (List NamedGuard)) (guards : List NetGuard) → length (paths_from cells paths guards) ≡ length paths + length guards
   length-paths paths [] = let e : length paths ≡ length paths + 0 = omega arith in e
   length-paths paths (g ∷ guards) =
       let h = length-paths (paths ++ (path_to paths g.above ++ named_guard cells g ∷ []) ∷ []) guards in
       let p = length-push paths (path_to paths g.above ++ named_guard cells g ∷ []) in
       omega arith
 
-  paths-append : (paths : List (List Guard)) (a b : List NetGuard) → paths_from cells paths (a ++ b) ≡ paths_from cells (paths_from cells paths a) b
+  paths-append : (paths : List (List NamedGuard)) (a b : List NetGuard) → paths_from cells paths (a ++ b) ≡ paths_from cells (paths_from cells paths a) b
   paths-append paths [] b = refl
   paths-append paths (g ∷ a) b = paths-append (paths ++ (path_to paths g.above ++ named_guard cells g ∷ []) ∷ []) a b
 
-  pub agree-from : (paths : List (List Guard)) (guards : List NetGuard) → Agree (length paths) paths (paths_from cells paths guards)
+  pub agree-from : (paths : List (List NamedGuard)) (guards : List NetGuard) → Agree (length paths) paths (paths_from cells paths guards)
   agree-from paths [] j lt = refl
   agree-from paths (g ∷ guards) j lt =
-      let x : List Guard = path_to paths g.above ++ named_guard cells g ∷ [] in
+      let x : List NamedGuard = path_to paths g.above ++ named_guard cells g ∷ [] in
       let long = length-push paths x in
       agree-from (paths ++ x ∷ []) guards j (omega arith) ∙ get_or_append_left paths (x ∷ []) [] j lt
 
   -- the leaf, read by these paths
-  abbrev pub read : List (List Guard) → NetLeaf → Leaf
+  abbrev pub read : List (List NamedGuard) → NetLeaf → NamedLeaf
   read all l = record { kind = named_kind cells l.kind; path = path_to all l.last }
 
   -- the guard, read by these paths
-  abbrev pub read_guard : List (List Guard) → NetGuard → Occurrence Guard
+  abbrev pub read_guard : List (List NamedGuard) → NetGuard → Occurrence NamedGuard
   read_guard all g = record { guard = named_guard cells g; path = path_to all g.above }
 
   -- guards and leaves read by a list of paths
-  pub record IsRead (all : List (List Guard)) (gs : List NetGuard) (ls : List NetLeaf) (os : List (Occurrence Guard)) (out : List Leaf) : Type 0 where
+  pub record IsRead (all : List (List NamedGuard)) (gs : List NetGuard) (ls : List NetLeaf) (os : List (Occurrence NamedGuard)) (out : List NamedLeaf) : Type 0 where
     pub guards : map (read_guard all) gs ≡ os
     pub leaves : map (read all) ls ≡ out
 
   -- they are read so by any list of paths that agrees with what the guards give
-  grown-read : {last : Option ℕ} {path : List Guard} {k l : ℕ} {gs : List NetGuard} {ls : List NetLeaf} {os : List (Occurrence Guard)} {out : List Leaf} → Grown cells last path k l gs ls os out
-      → (paths all : List (List Guard)) → length paths ≡ k → IsBelow k last → path_to paths last ≡ path → Agree (k + length gs) (paths_from cells paths gs) all → IsRead all gs ls os out
+  grown-read : {last : Option ℕ} {path : List NamedGuard} {k l : ℕ} {gs : List NetGuard} {ls : List NetLeaf} {os : List (Occurrence NamedGuard)} {out : List NamedLeaf} → Grown cells last path k l gs ls os out
+      → (paths all : List (List NamedGuard)) → length paths ≡ k → IsLinkBelow k last → path_to paths last ≡ path → Agree (k + length gs) (paths_from cells paths gs) all → IsRead all gs ls os out
   grown-read (none last path k l) paths all long before at same = record { guards = refl; leaves = refl }
   grown-read (leaf path k l x fit) paths all long before at same = record {
     guards = refl;
-    leaves = ap (λ (way : List Guard). record { kind = named_kind cells x.kind; path = way } ∷ []) (path-agree k paths all x.last before (λ j lt. same j (omega arith)) ∙ at);
+    leaves = ap (λ (way : List NamedGuard). record { kind = named_kind cells x.kind; path = way } ∷ []) (path-agree k paths all x.last before (λ j lt. same j (omega arith)) ∙ at);
   }
   grown-read (under path k l g gs ls os out fit first past h) paths all long before at same =
-      let x : List Guard = path_to paths g.above ++ named_guard cells g ∷ [] in
+      let x : List NamedGuard = path_to paths g.above ++ named_guard cells g ∷ [] in
       let new : path_to (paths ++ x ∷ []) (Some k) ≡ x = ap (λ (j : ℕ). slice_index_or (paths ++ x ∷ []) j []) (sym long) ∙ new_path paths x in
       let way : path_to all g.above ≡ path = path-agree k paths all g.above before (λ j lt. same j (omega arith) ∙ agree-from paths (g ∷ gs) j (omega arith)) ∙ at in
-      let rest = grown-read h (paths ++ x ∷ []) all (length-push paths x ∙ ap suc long) (omega arith) (new ∙ ap (λ (way : List Guard). way ++ named_guard cells g ∷ []) at) (λ j lt. same j (omega arith)) in
+      let rest = grown-read h (paths ++ x ∷ []) all (length-push paths x ∙ ap suc long) (omega arith) (new ∙ ap (λ (way : List NamedGuard). way ++ named_guard cells g ∷ []) at) (λ j lt. same j (omega arith)) in
       record {
         guards =
-            ap (λ (way : List Guard). record { guard = named_guard cells g; path = way } ∷ map (read_guard all) gs) way
-            ∙ ap (λ (os : List (Occurrence Guard)). record { guard = named_guard cells g; path = path } ∷ os) rest.guards;
+            ap (λ (way : List NamedGuard). record { guard = named_guard cells g; path = way } ∷ map (read_guard all) gs) way
+            ∙ ap (λ (os : List (Occurrence NamedGuard)). record { guard = named_guard cells g; path = path } ∷ os) rest.guards;
         leaves = rest.leaves;
       }
   grown-read (beside last path k l gs ls os out gs' ls' os' out' h h') paths all long before at same =
-      let middle : List (List Guard) = paths_from cells paths gs in
+      let middle : List (List NamedGuard) = paths_from cells paths gs in
       let wide = length-paths paths gs in
       let sum = length-append gs gs' in
-      let whole : Agree (k + length gs + length gs') (paths_from cells middle gs') all = λ j lt. same j (omega arith) ∙ ap (λ (ps : List (List Guard)). slice_index_or ps j []) (paths-append paths gs gs') in
+      let whole : Agree (k + length gs + length gs') (paths_from cells middle gs') all = λ j lt. same j (omega arith) ∙ ap (λ (ps : List (List NamedGuard)). slice_index_or ps j []) (paths-append paths gs gs') in
       let left : Agree (k + length gs) middle all = λ j lt. whole j (omega arith) ∙ agree-from middle gs' j (omega arith) in
       let same_last : path_to middle last ≡ path_to paths last = path-agree k paths middle last before (λ j lt. agree-from paths gs j (omega arith)) in
       let first = grown-read h paths all long before at left in
@@ -99,19 +99,19 @@ module _ (cells : List NetCell) where
         leaves = map-append (read all) ls ls' ∙ ap (λ xs. xs ++ map (read all) ls') first.leaves ∙ ap (λ ys. out ++ ys) second.leaves;
       }
 
-  pub grown-all : {gs : List NetGuard} {ls : List NetLeaf} {os : List (Occurrence Guard)} {out : List Leaf} → Grown cells None [] 0 0 gs ls os out → IsRead (paths_from cells [] gs) gs ls os out
+  pub grown-all : {gs : List NetGuard} {ls : List NetLeaf} {os : List (Occurrence NamedGuard)} {out : List NamedLeaf} → Grown cells None [] 0 0 gs ls os out → IsRead (paths_from cells [] gs) gs ls os out
   grown-all {gs} h = grown-read h [] (paths_from cells [] gs) refl tt refl (λ j lt. refl)
 
   -- WHAT GUARDS AND LEAVES NAME IS THERE
 
   pub record GuardNames (k l past : ℕ) (g : NetGuard) : Type 0 where
     pub fit : All (AtomFits cells) g.ask
-    pub before : IsBelow k g.above
+    pub before : IsLinkBelow k g.above
     pub first : l ≤ g.first
     pub last : g.past ≤ past
 
-  pub grown-guard : {last : Option ℕ} {path : List Guard} {k l : ℕ} {gs : List NetGuard} {ls : List NetLeaf} {os : List (Occurrence Guard)} {out : List Leaf} → Grown cells last path k l gs ls os out
-      → IsBelow k last → (j m past : ℕ) (g : NetGuard) → m ≡ k + j → past ≡ l + length ls → slice_get gs j ≡ Some g → GuardNames m l past g
+  pub grown-guard : {last : Option ℕ} {path : List NamedGuard} {k l : ℕ} {gs : List NetGuard} {ls : List NetLeaf} {os : List (Occurrence NamedGuard)} {out : List NamedLeaf} → Grown cells last path k l gs ls os out
+      → IsLinkBelow k last → (j m past : ℕ) (g : NetGuard) → m ≡ k + j → past ≡ l + length ls → slice_get gs j ≡ Some g → GuardNames m l past g
   grown-guard (none last path k l) before j m past g e f at = absurd (cc)
   grown-guard (leaf path k l x fit) before j m past g e f at = absurd (cc)
   grown-guard (under path k l g' gs ls os out fit first ends h) before zero m past g e f at =
@@ -132,10 +132,10 @@ module _ (cells : List NetCell) where
 
   pub record LeafNames (past : ℕ) (x : NetLeaf) : Type 0 where
     pub fit : All (AtomFits cells) (atoms_of x.kind)
-    pub before : IsBelow past x.last
+    pub before : IsLinkBelow past x.last
 
-  pub grown-leaf : {last : Option ℕ} {path : List Guard} {k l : ℕ} {gs : List NetGuard} {ls : List NetLeaf} {os : List (Occurrence Guard)} {out : List Leaf} → Grown cells last path k l gs ls os out
-      → IsBelow k last → (i past : ℕ) (x : NetLeaf) → past ≡ k + length gs → slice_get ls i ≡ Some x → LeafNames past x
+  pub grown-leaf : {last : Option ℕ} {path : List NamedGuard} {k l : ℕ} {gs : List NetGuard} {ls : List NetLeaf} {os : List (Occurrence NamedGuard)} {out : List NamedLeaf} → Grown cells last path k l gs ls os out
+      → IsLinkBelow k last → (i past : ℕ) (x : NetLeaf) → past ≡ k + length gs → slice_get ls i ≡ Some x → LeafNames past x
   grown-leaf (none last path k l) before i past x e at = absurd (cc)
   grown-leaf (leaf path k l x' fit) before zero past x e at =
       let same : x' ≡ x = cc in
@@ -228,8 +228,8 @@ module _ (cells : List NetCell) where
         down m b (inl s) = absurd (let a = sooner b.number b.guard s in let c = b.past in omega arith)
         down m b (inr (j, f, s)) = let c = b.is in r.down m (record { number = j; guard = b.guard; stands = s; is = omega arith; first = b.first; past = b.past })
 
-    grown-under : {last : Option ℕ} {path : List Guard} {k l : ℕ} {gs : List NetGuard} {ls : List NetLeaf} {os : List (Occurrence Guard)} {out : List Leaf} → Grown cells last path k l gs ls os out
-        → IsBelow k last → Stand k gs → (i n : ℕ) (x : NetLeaf) → n ≡ l + i → slice_get ls i ≡ Some x → IsUnder gs k n last x.last
+    grown-under : {last : Option ℕ} {path : List NamedGuard} {k l : ℕ} {gs : List NetGuard} {ls : List NetLeaf} {os : List (Occurrence NamedGuard)} {out : List NamedLeaf} → Grown cells last path k l gs ls os out
+        → IsLinkBelow k last → Stand k gs → (i n : ℕ) (x : NetLeaf) → n ≡ l + i → slice_get ls i ≡ Some x → IsUnder gs k n last x.last
     grown-under (none last path k l) before stand i n x e at = absurd (cc)
     grown-under (leaf path k l x' fit) before stand zero n x e at =
         let same : x' ≡ x = cc in
@@ -240,7 +240,7 @@ module _ (cells : List NetCell) where
         under_one k g gs n x.last (stand 0 k g (omega arith) refl) (omega arith) (omega arith)
         (grown-under h (omega arith) (λ j m g' f s. stand (suc j) m g' (omega arith) s) i n x e at)
     grown-under (beside last path k l gs ls os out gs' ls' os' out' h h') before stand i n x e at =
-        let more : IsBelow (k + length gs) last = below-more last k (k + length gs) (omega arith) before in
+        let more : IsLinkBelow (k + length gs) last = below-more last k (k + length gs) (omega arith) before in
         elim (get-append ls ls' i x at) [
           | inl in_left ↦
               let lt = slice_get_within ls i x in_left in
@@ -257,7 +257,7 @@ module _ (cells : List NetCell) where
     none_above m h = elim h [ ]
 
     -- the guard is above exactly the leaves between its ends
-    pub grown-over : {ls : List NetLeaf} {os : List (Occurrence Guard)} {out : List Leaf} → Grown cells None [] 0 0 all ls os out → (m : ℕ) (g : NetGuard) → slice_get all m ≡ Some g → (i : ℕ) (x : NetLeaf) → slice_get ls i ≡ Some x
+    pub grown-over : {ls : List NetLeaf} {os : List (Occurrence NamedGuard)} {out : List NamedLeaf} → Grown cells None [] 0 0 all ls os out → (m : ℕ) (g : NetGuard) → slice_get all m ≡ Some g → (i : ℕ) (x : NetLeaf) → slice_get ls i ≡ Some x
         → (IsAtOrAbove all m x.last → (g.first ≤ i) × (i < g.past)) × ((g.first ≤ i) × (i < g.past) → IsAtOrAbove all m x.last)
     grown-over h m g at i x s = (λ a. up (r.up m a), λ b. r.down m (record { number = m; guard = g; stands = at; is = omega arith; first = b.0; past = b.1 }))
       where

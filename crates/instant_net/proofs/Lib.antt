@@ -5,6 +5,8 @@ pub mod Grown
 pub mod Atoms
 pub mod NodeLeaves
 pub mod NodeParts
+pub mod Linking
+pub mod Rooms
 pub mod Adding
 pub mod Covering
 pub mod SpokenNames
@@ -27,3 +29,4 @@ pub mod AskWalks
 pub mod PathWalks
 pub mod KeptValues
 pub mod Openings
+pub mod OneNet

@@ -36,10 +36,10 @@ use Rattle.instant_net.specs.declared.parts.NetGuard.{NetGuard}
 use Rattle.instant_net.specs.declared.parts.NetLeaf.{NetLeaf}
 use Rattle.instant_net.specs.declared.parts.LeafKind.{LeafKind}
 use Rattle.instant_net.specs.declared.parts.LeafKind.TheVariants as kinds
-use Rattle.instant_net.specs.NamedLeaves.{Named, Guard, Leaf, told_by, holds, entails, free, asked, leaf_rests, leaves_rest}
-use Rattle.instant_net.specs.Nets.{Flat, named_at, named, named_guard, named_kind, named_leaf, net_leaves, path_to, paths_from}
+use Rattle.instant_net.specs.NamedLeaves.{Named, NamedGuard, NamedLeaf, told_by, named_holds, named_entails, named_free, named_asked, named_leaf_rests, leaves_rest}
+use Rattle.instant_net.specs.Nets.{Flat, named_at, named_atoms, named_guard, named_kind, named_leaf, net_leaves, path_to, paths_from}
 use Rattle.instant_net.specs.Opened.{IsCellOf, IsNetOf}
-use Rattle.instant_net.specs.Outputs.{IsStoreOf, Below, IsOutput}
+use Rattle.instant_net.specs.Outputs.{IsStoreOf, IsNetStoreBelow, IsNetOutput}
 use Rattle.instant_net.specs.Collecting.{cell_names}
 use Rattle.instant_net.proofs.Lists.{same-elements, Contains-map}
 use Rattle.instant_net.proofs.NetRests.{net-rests}
@@ -50,68 +50,68 @@ abbrev Agree : List NetCell → StoreMap → StoreMap → Type 0
 Agree cells u w = (c : NetCell) (t : Token) → Contains cells c → store_entails u c.name c.cell t ≡ store_entails w c.name c.cell t
 
 module _ (cells : List NetCell) (u w : StoreMap) (agree : Agree cells u w) where
-  atom-alike : (a : Atom) (o : Option NetCell) → slice_get cells a.cell ≡ o → list_all (holds u) (named_at o a) ≡ list_all (holds w) (named_at o a)
+  atom-alike : (a : Atom) (o : Option NetCell) → slice_get cells a.cell ≡ o → list_all (named_holds u) (named_at o a) ≡ list_all (named_holds w) (named_at o a)
   atom-alike a None e = refl
   atom-alike a (Some c) e = ap (λ (r : Bool). r && true) (agree c a.token (same-elements cells c a.cell e))
 
-  entails-append : (s : StoreMap) (xs ys : List Named) → entails s (xs ++ ys) ≡ (entails s xs && entails s ys)
+  entails-append : (s : StoreMap) (xs ys : List Named) → named_entails s (xs ++ ys) ≡ (named_entails s xs && named_entails s ys)
   entails-append s [] ys = refl
-  entails-append s (x ∷ xs) ys = ap (λ (r : Bool). holds s x && r) (entails-append s xs ys) ∙ and_assoc (holds s x) (entails s xs) (entails s ys)
+  entails-append s (x ∷ xs) ys = ap (λ (r : Bool). named_holds s x && r) (entails-append s xs ys) ∙ and_assoc (named_holds s x) (named_entails s xs) (named_entails s ys)
     where
       and_assoc : (a b c : Bool) → (a && (b && c)) ≡ ((a && b) && c)
       and_assoc true b c = refl
       and_assoc false b c = refl
 
-  atoms-alike : (atoms : List Atom) → entails u (named cells atoms) ≡ entails w (named cells atoms)
+  atoms-alike : (atoms : List Atom) → named_entails u (named_atoms cells atoms) ≡ named_entails w (named_atoms cells atoms)
   atoms-alike [] = refl
   atoms-alike (a ∷ atoms) =
-      entails-append u (named_at (slice_get cells a.cell) a) (named cells atoms)
-      ∙ ap (λ (r : Bool). r && entails u (named cells atoms)) (atom-alike a (slice_get cells a.cell) refl)
-      ∙ ap (λ (r : Bool). entails w (named_at (slice_get cells a.cell) a) && r) (atoms-alike atoms)
-      ∙ sym (entails-append w (named_at (slice_get cells a.cell) a) (named cells atoms))
+      entails-append u (named_at (slice_get cells a.cell) a) (named_atoms cells atoms)
+      ∙ ap (λ (r : Bool). r && named_entails u (named_atoms cells atoms)) (atom-alike a (slice_get cells a.cell) refl)
+      ∙ ap (λ (r : Bool). named_entails w (named_at (slice_get cells a.cell) a) && r) (atoms-alike atoms)
+      ∙ sym (entails-append w (named_at (slice_get cells a.cell) a) (named_atoms cells atoms))
 
-  abbrev GuardAlike : Guard → Type 0
-  GuardAlike g = entails u g.ask ≡ entails w g.ask
+  abbrev GuardAlike : NamedGuard → Type 0
+  GuardAlike g = named_entails u g.ask ≡ named_entails w g.ask
 
-  paths-alike : (paths : List (List Guard)) (guards : List NetGuard) → Each (Each GuardAlike) paths → Each (Each GuardAlike) (paths_from cells paths guards)
+  paths-alike : (paths : List (List NamedGuard)) (guards : List NetGuard) → Each (Each GuardAlike) paths → Each (Each GuardAlike) (paths_from cells paths guards)
   paths-alike paths [] h = h
   paths-alike paths (g ∷ guards) h =
-      let x : List Guard = path_to paths g.above ++ named_guard cells g ∷ [] in
+      let x : List NamedGuard = path_to paths g.above ++ named_guard cells g ∷ [] in
       paths-alike (paths ++ x ∷ []) guards (Each-append (Each GuardAlike) paths (x ∷ []) h (Each-append GuardAlike (path_to paths g.above) (named_guard cells g ∷ []) (to paths g.above h) (atoms-alike g.ask, tt), tt))
     where
-      at : (paths : List (List Guard)) (k : ℕ) → Each (Each GuardAlike) paths → Each GuardAlike (slice_index_or paths k [])
+      at : (paths : List (List NamedGuard)) (k : ℕ) → Each (Each GuardAlike) paths → Each GuardAlike (slice_index_or paths k [])
       at [] k h = tt
       at (y ∷ paths) zero h = h.0
       at (y ∷ paths) (suc k) h = at paths k h.1
 
-      to : (paths : List (List Guard)) (o : Option ℕ) → Each (Each GuardAlike) paths → Each GuardAlike (path_to paths o)
+      to : (paths : List (List NamedGuard)) (o : Option ℕ) → Each (Each GuardAlike) paths → Each GuardAlike (path_to paths o)
       to paths None h = tt
       to paths (Some k) h = at paths k h
 
-  path-alike : (paths : List (List Guard)) (o : Option ℕ) → Each (Each GuardAlike) paths → Each GuardAlike (path_to paths o)
+  path-alike : (paths : List (List NamedGuard)) (o : Option ℕ) → Each (Each GuardAlike) paths → Each GuardAlike (path_to paths o)
   path-alike paths None h = tt
   path-alike paths (Some k) h = at paths k h
     where
-      at : (paths : List (List Guard)) (k : ℕ) → Each (Each GuardAlike) paths → Each GuardAlike (slice_index_or paths k [])
+      at : (paths : List (List NamedGuard)) (k : ℕ) → Each (Each GuardAlike) paths → Each GuardAlike (slice_index_or paths k [])
       at [] k h = tt
       at (y ∷ paths) zero h = h.0
       at (y ∷ paths) (suc k) h = at paths k h.1
 
-  asked-alike : (path : List Guard) → Each GuardAlike path → list_all (asked u) path ≡ list_all (asked w) path
+  asked-alike : (path : List NamedGuard) → Each GuardAlike path → list_all (named_asked u) path ≡ list_all (named_asked w) path
   asked-alike [] h = refl
-  asked-alike (g ∷ path) h = ap (λ (r : Bool). cond g.strict true r && list_all (asked u) path) h.0 ∙ ap (λ (r : Bool). asked w g && r) (asked-alike path h.1)
+  asked-alike (g ∷ path) h = ap (λ (r : Bool). cond g.negative true r && list_all (named_asked u) path) h.0 ∙ ap (λ (r : Bool). named_asked w g && r) (asked-alike path h.1)
 
-  kind-alike : (kind : LeafKind) → entails u (told_by (named_kind cells kind)) ≡ entails w (told_by (named_kind cells kind))
+  kind-alike : (kind : LeafKind) → named_entails u (told_by (named_kind cells kind)) ≡ named_entails w (told_by (named_kind cells kind))
   kind-alike (kinds.Tells told) = atoms-alike told
   kind-alike kinds.Idle = refl
   kind-alike (kinds.StartsHence c) = refl
   kind-alike (kinds.StartsNext c) = refl
 
-  leaf-alike : (v : StoreMap) (l : Leaf) → Each GuardAlike l.path → entails u (told_by l.kind) ≡ entails w (told_by l.kind) → leaf_rests u v l ≡ leaf_rests w v l
+  leaf-alike : (v : StoreMap) (l : NamedLeaf) → Each GuardAlike l.path → named_entails u (told_by l.kind) ≡ named_entails w (told_by l.kind) → named_leaf_rests u v l ≡ named_leaf_rests w v l
   leaf-alike v l h e =
-      let by_v : Bool = list_all (asked v) l.path ⇒ entails v (told_by l.kind) in
-      ap (λ (r : Bool). list_all (free v) l.path ⇒ ((r ⇒ entails u (told_by l.kind)) && by_v)) (asked-alike l.path h)
-      ∙ ap (λ (r : Bool). list_all (free v) l.path ⇒ ((list_all (asked w) l.path ⇒ r) && by_v)) e
+      let by_v : Bool = list_all (named_asked v) l.path ⇒ named_entails v (told_by l.kind) in
+      ap (λ (r : Bool). list_all (named_free v) l.path ⇒ ((r ⇒ named_entails u (told_by l.kind)) && by_v)) (asked-alike l.path h)
+      ∙ ap (λ (r : Bool). list_all (named_free v) l.path ⇒ ((list_all (named_asked w) l.path ⇒ r) && by_v)) e
 
   leaves-alike : (v : StoreMap) (net : Flat) → net.cells ≡ cells → (ls : List NetLeaf) → leaves_rest (map (named_leaf (record net { cells = cells })) ls) u v ≡ leaves_rest (map (named_leaf (record net { cells = cells })) ls) w v
   leaves-alike v net e [] = refl
@@ -119,7 +119,7 @@ module _ (cells : List NetCell) (u w : StoreMap) (agree : Agree cells u w) where
       let net' : Flat = record net { cells = cells } in
       ap (λ (r : Bool). r && leaves_rest (map (named_leaf net') ls) u v)
       (leaf-alike v (named_leaf net' l) (path-alike (paths_from cells [] net.guards) l.last (paths-alike [] net.guards tt)) (kind-alike l.kind))
-      ∙ ap (λ (r : Bool). leaf_rests w v (named_leaf net' l) && r) (leaves-alike v net e ls)
+      ∙ ap (λ (r : Bool). named_leaf_rests w v (named_leaf net' l) && r) (leaves-alike v net e ls)
 
 -- STORES OF THE NET AND OF THE PROGRAM
 
@@ -147,7 +147,7 @@ module _ (p : CoreProgram) (table : List ℕ) (rs : List Closure) (t : ℕ) (net
       let one = cell-of r.0 r.1 in
       (one.decl, subst (λ (q : CellName). Names p q one.decl) r.2 one.named, subst (λ (c : Cell). IsKeptFor c x) one.cell r.3)
 
-  pub below-up : (u v : StoreMap) → IsStoreOf net.cells u → IsStore p v → Below net.cells u v → core.Below p u v
+  pub below-up : (u v : StoreMap) → IsStoreOf net.cells u → IsStore p v → IsNetStoreBelow net.cells u v → core.Below p u v
   below-up u v iu iv h n d x named fits up = go (get u n) refl
     where
       go : (o : Option Value) → get u n ≡ o → IsTrue (store_entails v n d.cell x)
@@ -160,7 +160,7 @@ module _ (p : CoreProgram) (table : List ℕ) (rs : List Closure) (t : ℕ) (net
           (h r.0 x r.1 (subst (λ (c : Cell). Fits c x) (sym same) fits)
           (subst (λ (q : CellName). IsTrue (store_entails u q r.0.cell x)) (sym r.2) (subst (λ (c : Cell). IsTrue (store_entails u n c x)) (sym same) up))))
 
-  pub below-down : (u v : StoreMap) → core.Below p u v → Below net.cells u v
+  pub below-down : (u v : StoreMap) → core.Below p u v → IsNetStoreBelow net.cells u v
   below-down u v h c x at fits up =
       let one = cell-of c at in
       subst (λ (y : Cell). IsTrue (store_entails v c.name y x)) (sym one.cell)
@@ -232,10 +232,10 @@ module _ (p : CoreProgram) (table : List ℕ) (rs : List Closure) (t : ℕ) (net
   abbrev rest_here : StoreMap → StoreMap → Bool
   rest_here u v = leaves_rest (net_leaves net) u v
 
-  rests-same : (u v : StoreMap) → core.Below p u v → roots_rest p rs t u v ≡ rest_here u v
+  pub rests-same : (u v : StoreMap) → core.Below p u v → roots_rest p rs t u v ≡ rest_here u v
   rests-same u v below = closures_leaves p of.program rs (all_each (IsOwn p) rs of.roots) t u v below ∙ sym (net-rests p table rs t net of u v)
 
-  roots-output : (i v : StoreMap) → IsOutput net i v → IsOutputOf p rs t i v
+  roots-output : (i v : StoreMap) → IsNetOutput net i v → IsOutputOf p rs t i v
   roots-output i v o =
       let iv = store-up v o.store in
       record {
@@ -246,7 +246,7 @@ module _ (p : CoreProgram) (table : List ℕ) (rs : List Closure) (t : ℕ) (net
         least = λ u iu bi bv r. o.least u (store-down u v iu o.store bv) (below-down i u bi) (below-down u v bv) (sym (rests-same u v bv) ∙ r);
       }
 
-  net-output : (i v : StoreMap) → IsInput p i → IsOutputOf p rs t i v → IsOutput net i v
+  net-output : (i v : StoreMap) → IsInput p i → IsOutputOf p rs t i v → IsNetOutput net i v
   net-output i v is o =
       let w : StoreMap = restricted v in
       let si = input-down i is in
@@ -269,5 +269,5 @@ module _ (p : CoreProgram) (table : List ℕ) (rs : List Closure) (t : ℕ) (net
             o.least u iu (below-up i u si iu bi) ub (rests-same u v ub ∙ r);
       }
 
-  pub same-outputs : (i v : StoreMap) → IsInput p i → (IsOutput net i v → IsOutputOf p rs t i v) × (IsOutputOf p rs t i v → IsOutput net i v)
+  pub same-outputs : (i v : StoreMap) → IsInput p i → (IsNetOutput net i v → IsOutputOf p rs t i v) × (IsOutputOf p rs t i v → IsNetOutput net i v)
   same-outputs i v is = (roots-output i v, net-output i v is)

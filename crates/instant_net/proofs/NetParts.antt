@@ -8,39 +8,39 @@ use Rattle.instant_net.specs.declared.parts.Atom.{Atom}
 use Rattle.instant_net.specs.declared.parts.NetCell.{NetCell}
 use Rattle.instant_net.specs.declared.parts.NetGuard.{NetGuard}
 use Rattle.instant_net.specs.declared.parts.NetLeaf.{NetLeaf}
-use Rattle.instant_net.specs.Nets.{Flat, AtomFits, IsBelow, LeafIsWhole}
+use Rattle.instant_net.specs.Nets.{Flat, AtomFits, IsLinkBelow, LeafIsWhole}
 use Rattle.instant_net.specs.Opened.{IsNet}
-use Rattle.instant_net.specs.Readers.{ask_of, above_of, tells_of, last_of, stratum_of, lesser, least_stratum, greatest_stratum}
+use Rattle.instant_net.specs.Readers.{guard_ask_of, above_of, leaf_tells_of, last_of, stratum_of, lesser, least_stratum, greatest_stratum}
 
 module _ (net : Flat) (is : IsNet net) where
-  pub ask_fits : (k : ℕ) → All (AtomFits net.cells) (ask_of (slice_get net.guards k))
+  pub ask_fits : (k : ℕ) → All (AtomFits net.cells) (guard_ask_of (slice_get net.guards k))
   ask_fits k = go (slice_get net.guards k) refl
     where
-      go : (o : Option NetGuard) → slice_get net.guards k ≡ o → All (AtomFits net.cells) (ask_of o)
+      go : (o : Option NetGuard) → slice_get net.guards k ≡ o → All (AtomFits net.cells) (guard_ask_of o)
       go None e = All-nil (AtomFits net.cells)
       go (Some g) e = (is.of.whole.guards k g e).0
 
-  pub above_there : (k : ℕ) → k < length net.guards → IsBelow k (above_of (slice_get net.guards k))
+  pub above_there : (k : ℕ) → k < length net.guards → IsLinkBelow k (above_of (slice_get net.guards k))
   above_there k h = go (slice_get net.guards k) refl
     where
-      go : (o : Option NetGuard) → slice_get net.guards k ≡ o → IsBelow k (above_of o)
+      go : (o : Option NetGuard) → slice_get net.guards k ≡ o → IsLinkBelow k (above_of o)
       go None e = tt
       go (Some g) e = (is.of.whole.guards k g e).1
 
   leaf_whole : (k : ℕ) (l : NetLeaf) → slice_get net.leaves k ≡ Some l → LeafIsWhole net l
   leaf_whole k l e = subst (LeafIsWhole net) (get_or_from_slice_get net.leaves k l l e) (All-get_or (LeafIsWhole net) net.leaves k l (slice_get_within net.leaves k l e) is.of.whole.leaves)
 
-  pub tells_fit : (k : ℕ) → All (AtomFits net.cells) (tells_of (slice_get net.leaves k))
+  pub tells_fit : (k : ℕ) → All (AtomFits net.cells) (leaf_tells_of (slice_get net.leaves k))
   tells_fit k = go (slice_get net.leaves k) refl
     where
-      go : (o : Option NetLeaf) → slice_get net.leaves k ≡ o → All (AtomFits net.cells) (tells_of o)
+      go : (o : Option NetLeaf) → slice_get net.leaves k ≡ o → All (AtomFits net.cells) (leaf_tells_of o)
       go None e = All-nil (AtomFits net.cells)
       go (Some l) e = (leaf_whole k l e).0
 
-  pub last_there : (k : ℕ) → IsBelow (length net.guards) (last_of (slice_get net.leaves k))
+  pub last_there : (k : ℕ) → IsLinkBelow (length net.guards) (last_of (slice_get net.leaves k))
   last_there k = go (slice_get net.leaves k) refl
     where
-      go : (o : Option NetLeaf) → slice_get net.leaves k ≡ o → IsBelow (length net.guards) (last_of o)
+      go : (o : Option NetLeaf) → slice_get net.leaves k ≡ o → IsLinkBelow (length net.guards) (last_of o)
       go None e = tt
       go (Some l) e = (leaf_whole k l e).1
 

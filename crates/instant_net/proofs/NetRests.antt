@@ -20,7 +20,7 @@ use Rattle.agent_laws.specs.LeafRests.{path_rests}
 use Rattle.agent_laws.specs.Laws.{AreClosures}
 use Rattle.agent_laws.proofs.Eachs.{Each-append, all_each}
 use Rattle.agent_laws.proofs.Instance.{GuardFits}
-use Rattle.instant_net.specs.NamedLeaves.{Named, Guard, Leaf, told_by, holds, entails, free, asked, leaf_rests, leaves_rest}
+use Rattle.instant_net.specs.NamedLeaves.{Named, NamedGuard, NamedLeaf, told_by, named_holds, named_entails, named_free, named_asked, named_leaf_rests, leaves_rest}
 use Rattle.instant_net.specs.Nets.{Flat, net_leaves}
 use Rattle.instant_net.specs.Opened.{IsNetOf}
 use Rattle.instant_net.specs.Programs.{token_named, constraint_named, guard_named, kind_named, leaf_named}
@@ -50,28 +50,28 @@ roots-fit p is rs own t = go rs (all_each (λ r. IsClosure p r.node r.births) rs
         (leaves-fit p t (agent_at p.nodes r.node) r.node r.births [] (closure_fits p is r.node r.births h.0 t) tt) (go rs h.1)
 
 module _ (p : CoreProgram) where
-  pub entails-named : (b : List ℕ) (c : Constraint) (u : StoreMap) → ConstraintFits p b c → entails u (constraint_named p b c) ≡ rests.entails p b u c
+  pub entails-named : (b : List ℕ) (c : Constraint) (u : StoreMap) → ConstraintFits p b c → named_entails u (constraint_named p b c) ≡ rests.entails p b u c
   entails-named b [] u f = refl
   entails-named b (x ∷ c) u f =
       let d : CellDecl = f.0.decl in
-      subst (λ (o : Option CellDecl). list_all (holds u) (token_named p b x.0 x.1 o ++ constraint_named p b c) ≡ (rests.holds_at o p b u x.0 x.1 && rests.entails p b u c)) (sym f.0.found)
+      subst (λ (o : Option CellDecl). list_all (named_holds u) (token_named p b x.0 x.1 o ++ constraint_named p b c) ≡ (rests.holds_at o p b u x.0 x.1 && rests.entails p b u c)) (sym f.0.found)
       (ap (λ (r : Bool). store_entails u (name_of p b x.0) d.cell x.1 && r) (entails-named b c u f.1))
 
-  free-named : (v : StoreMap) (path : List core.Guard) → Each (GuardFits p) path → list_all (free v) (map (guard_named p) path) ≡ list_all (core_rests.free p v) path
+  free-named : (v : StoreMap) (path : List core.Guard) → Each (GuardFits p) path → list_all (named_free v) (map (guard_named p) path) ≡ list_all (core_rests.free p v) path
   free-named v [] f = refl
   free-named v (core.Positive b c ∷ path) f = free-named v path f.1
   free-named v (core.Negative b c ∷ path) f =
-      ap (λ (r : Bool). not r && list_all (free v) (map (guard_named p) path)) (entails-named b c v f.0)
+      ap (λ (r : Bool). not r && list_all (named_free v) (map (guard_named p) path)) (entails-named b c v f.0)
       ∙ ap (λ (r : Bool). not (rests.entails p b v c) && r) (free-named v path f.1)
 
-  asked-named : (u : StoreMap) (path : List core.Guard) → Each (GuardFits p) path → list_all (asked u) (map (guard_named p) path) ≡ list_all (core_rests.asked p u) path
+  asked-named : (u : StoreMap) (path : List core.Guard) → Each (GuardFits p) path → list_all (named_asked u) (map (guard_named p) path) ≡ list_all (core_rests.asked p u) path
   asked-named u [] f = refl
   asked-named u (core.Positive b c ∷ path) f =
-      ap (λ (r : Bool). r && list_all (asked u) (map (guard_named p) path)) (entails-named b c u f.0)
+      ap (λ (r : Bool). r && list_all (named_asked u) (map (guard_named p) path)) (entails-named b c u f.0)
       ∙ ap (λ (r : Bool). rests.entails p b u c && r) (asked-named u path f.1)
   asked-named u (core.Negative b c ∷ path) f = asked-named u path f.1
 
-  told-named : (n : ℕ) (b : List ℕ) (a : Agent) (u : StoreMap) → ConstraintFits p b (core.tells a) → entails u (told_by (kind_named p n b a)) ≡ rests.entails p b u (core.tells a)
+  told-named : (n : ℕ) (b : List ℕ) (a : Agent) (u : StoreMap) → ConstraintFits p b (core.tells a) → named_entails u (told_by (kind_named p n b a)) ≡ rests.entails p b u (core.tells a)
   told-named n b (Tell c) u f = entails-named b c u f
   told-named n b Skip u f = refl
   told-named n b (Then c a) u f = refl
@@ -81,14 +81,14 @@ module _ (p : CoreProgram) where
   told-named n b (Hence a) u f = refl
   told-named n b (Next a) u f = refl
 
-  leaf-named : (u v : StoreMap) (l : core.Leaf) → LeafFits p l → leaf_rests u v (leaf_named p l) ≡ core_rests.leaf_rests p u v l
+  leaf-named : (u v : StoreMap) (l : core.Leaf) → LeafFits p l → named_leaf_rests u v (leaf_named p l) ≡ core_rests.leaf_rests p u v l
   leaf-named u v l f =
-      let path : List Guard = map (guard_named p) l.path in
+      let path : List NamedGuard = map (guard_named p) l.path in
       let told : List Named = told_by (kind_named p l.node l.births l.agent) in
-      ap (λ (x : Bool). path_rests x (list_all (asked u) path) (list_all (asked v) path) (entails u told) (entails v told)) (free-named v l.path f.1)
-      ∙ ap (λ (x : Bool). path_rests (list_all (core_rests.free p v) l.path) x (list_all (asked v) path) (entails u told) (entails v told)) (asked-named u l.path f.1)
-      ∙ ap (λ (x : Bool). path_rests (list_all (core_rests.free p v) l.path) (list_all (core_rests.asked p u) l.path) x (entails u told) (entails v told)) (asked-named v l.path f.1)
-      ∙ ap (λ (x : Bool). path_rests (list_all (core_rests.free p v) l.path) (list_all (core_rests.asked p u) l.path) (list_all (core_rests.asked p v) l.path) x (entails v told)) (told-named l.node l.births l.agent u f.0)
+      ap (λ (x : Bool). path_rests x (list_all (named_asked u) path) (list_all (named_asked v) path) (named_entails u told) (named_entails v told)) (free-named v l.path f.1)
+      ∙ ap (λ (x : Bool). path_rests (list_all (core_rests.free p v) l.path) x (list_all (named_asked v) path) (named_entails u told) (named_entails v told)) (asked-named u l.path f.1)
+      ∙ ap (λ (x : Bool). path_rests (list_all (core_rests.free p v) l.path) (list_all (core_rests.asked p u) l.path) x (named_entails u told) (named_entails v told)) (asked-named v l.path f.1)
+      ∙ ap (λ (x : Bool). path_rests (list_all (core_rests.free p v) l.path) (list_all (core_rests.asked p u) l.path) (list_all (core_rests.asked p v) l.path) x (named_entails v told)) (told-named l.node l.births l.agent u f.0)
       ∙ ap (λ (x : Bool). path_rests (list_all (core_rests.free p v) l.path) (list_all (core_rests.asked p u) l.path) (list_all (core_rests.asked p v) l.path) (rests.entails p l.births u (core.tells l.agent)) x) (told-named l.node l.births l.agent v f.0)
 
   leaves-named : (u v : StoreMap) (ls : List core.Leaf) → Each (LeafFits p) ls → leaves_rest (map (leaf_named p) ls) u v ≡ list_all (core_rests.leaf_rests p u v) ls
@@ -98,4 +98,4 @@ module _ (p : CoreProgram) where
       ∙ ap (λ (x : Bool). core_rests.leaf_rests p u v l && x) (leaves-named u v ls f.1)
 
   pub net-rests : (table : List ℕ) (rs : List Closure) (t : ℕ) (net : Flat) → IsNetOf p table rs t net → (u v : StoreMap) → leaves_rest (net_leaves net) u v ≡ list_all (core_rests.leaf_rests p u v) (core.leaves p rs t)
-  net-rests table rs t net is u v = ap (λ (ls : List Leaf). leaves_rest ls u v) is.leaves ∙ leaves-named u v (core.leaves p rs t) (roots-fit p is.program rs is.roots t)
+  net-rests table rs t net is u v = ap (λ (ls : List NamedLeaf). leaves_rest ls u v) is.leaves ∙ leaves-named u v (core.leaves p rs t) (roots-fit p is.program rs is.roots t)

@@ -26,8 +26,8 @@ use Rattle.instant_net.specs.declared.parts.Atom.{Atom}
 use Rattle.instant_net.specs.declared.parts.NetCell.{NetCell}
 use Rattle.instant_net.specs.declared.parts.LeafKind.{LeafKind}
 use Rattle.instant_net.specs.declared.parts.LeafKind.TheVariants as kinds
-use Rattle.instant_net.specs.NamedLeaves.{Named, Guard, Leaf, told_by}
-use Rattle.instant_net.specs.Nets.{Flat, named_at, named, named_guard, named_kind, named_leaf, net_leaves, atoms_of}
+use Rattle.instant_net.specs.NamedLeaves.{Named, NamedGuard, NamedLeaf, told_by}
+use Rattle.instant_net.specs.Nets.{Flat, named_at, named_atoms, named_guard, named_kind, named_leaf, net_leaves, atoms_of}
 use Rattle.instant_net.specs.Opened.{IsCellOf, IsNetOf}
 use Rattle.instant_net.specs.Outputs.{IsStratified}
 use Rattle.instant_net.specs.Programs.{token_named, constraint_named, guard_named, kind_named, leaf_named}
@@ -38,15 +38,15 @@ use Rattle.instant_net.proofs.NetRests.{LeafFits, roots-fit}
 -- ATOMS BY NAME
 
 -- an atom of a cell is among the named ones
-atom-named : (cells : List NetCell) (atoms : List Atom) (a : Atom) (c : NetCell) → slice_get cells a.cell ≡ Some c → Contains atoms a → Contains (named cells atoms) (record { name = c.name; cell = c.cell; token = a.token })
+atom-named : (cells : List NetCell) (atoms : List Atom) (a : Atom) (c : NetCell) → slice_get cells a.cell ≡ Some c → Contains atoms a → Contains (named_atoms cells atoms) (record { name = c.name; cell = c.cell; token = a.token })
 atom-named cells [] a c at (k, lt, e) = absurd (omega arith)
 atom-named cells (x ∷ atoms) a c at (zero, lt, e) =
     let own : named_at (slice_get cells x.cell) x ≡ record { name = c.name; cell = c.cell; token = a.token } ∷ [] =
     ap (λ (y : Atom). named_at (slice_get cells y.cell) y) e ∙ ap (λ (o : Option NetCell). named_at o a) at in
-    subst (λ (ys : List Named). Contains (ys ++ named cells atoms) (record { name = c.name; cell = c.cell; token = a.token })) (sym own) (0, omega arith, refl)
-atom-named cells (x ∷ atoms) a c at (suc k, lt, e) = Contains-append_right (named_at (slice_get cells x.cell) x) (named cells atoms) _ (atom-named cells atoms a c at (k, omega arith, e))
+    subst (λ (ys : List Named). Contains (ys ++ named_atoms cells atoms) (record { name = c.name; cell = c.cell; token = a.token })) (sym own) (0, omega arith, refl)
+atom-named cells (x ∷ atoms) a c at (suc k, lt, e) = Contains-append_right (named_at (slice_get cells x.cell) x) (named_atoms cells atoms) _ (atom-named cells atoms a c at (k, omega arith, e))
 
-told-named : (cells : List NetCell) (kind : LeafKind) (x : Named) → Contains (named cells (atoms_of kind)) x → Contains (told_by (named_kind cells kind)) x
+told-named : (cells : List NetCell) (kind : LeafKind) (x : Named) → Contains (named_atoms cells (atoms_of kind)) x → Contains (told_by (named_kind cells kind)) x
 told-named cells (kinds.Tells told) x h = h
 told-named cells kinds.Idle x h = h
 told-named cells (kinds.StartsHence c) x h = h
@@ -75,8 +75,8 @@ module _ (p : CoreProgram) (is : IsWellFormed p) where
 
   module _ (table : List ℕ) where
     -- a cell of level k may be told under the guard
-    abbrev Allows : ℕ → Guard → Type 0
-    Allows k g = (z : Named) → Contains g.ask z → slice_index table (cell_named p z.name) + (if g.strict then 1 else 0) ≤ k
+    abbrev Allows : ℕ → NamedGuard → Type 0
+    Allows k g = (z : Named) → Contains g.ask z → slice_index table (cell_named p z.name) + (if g.negative then 1 else 0) ≤ k
 
     guard-allows : (k : ℕ) (g : core.Guard) → GuardFits p g → Under table k g → Allows k (guard_named p g)
     guard-allows k (core.Positive b c) f h z at = asked-each (λ n. slice_index table n + 0 ≤ k) b c z f (Each-map (λ x. slice_index table x.0 ≤ k) (λ x. slice_index table x.0 + 0 ≤ k) (λ x l. omega arith) c h) at
@@ -113,7 +113,7 @@ module _ (p : CoreProgram) (is : IsWellFormed p) where
           (leaves_stratified table t (agent_at p.nodes r.node) r.node r.births [] 0 (node_floors p table is strat r.node h.0.node) tt) (go rs h.1)
 
   -- a leaf of the net is one of the roots'
-  leaf-of : (ls : List core.Leaf) (i : ℕ) (x : Leaf) → slice_get (map (leaf_named p) ls) i ≡ Some x → (l : core.Leaf) × (slice_get ls i ≡ Some l) × (leaf_named p l ≡ x)
+  leaf-of : (ls : List core.Leaf) (i : ℕ) (x : NamedLeaf) → slice_get (map (leaf_named p) ls) i ≡ Some x → (l : core.Leaf) × (slice_get ls i ≡ Some l) × (leaf_named p l ≡ x)
   leaf-of [] i x e = absurd (cc)
   leaf-of (l ∷ ls) zero x e = (l, refl, cc)
   leaf-of (l ∷ ls) (suc i) x e = leaf-of ls i x e
@@ -127,10 +127,10 @@ module _ (p : CoreProgram) (is : IsWellFormed p) where
       let x : Named = record { name = d.name; cell = d.cell; token = told.token } in
       let z : Named = record { name = c.name; cell = c.cell; token = asked.token } in
       let in_x : Contains (told_by (leaf_named p own.0).kind) x =
-      subst (λ (y : Leaf). Contains (told_by y.kind) x) (sym own.2) (told-named net.cells leaf.kind x (atom-named net.cells (atoms_of leaf.kind) told d at_d in_told)) in
+      subst (λ (y : NamedLeaf). Contains (told_by y.kind) x) (sym own.2) (told-named net.cells leaf.kind x (atom-named net.cells (atoms_of leaf.kind) told d at_d in_told)) in
       let in_path : Contains (map (guard_named p) own.0.path) (named_guard net.cells g) =
-      subst (λ (y : Leaf). Contains y.path (named_guard net.cells g)) (sym own.2) (above-in_path net.cells net.guards (λ j h s. (of.whole.guards j h s).1) k g at_guard leaf.last up) in
+      subst (λ (y : NamedLeaf). Contains y.path (named_guard net.cells g)) (sym own.2) (above-in_path net.cells net.guards (λ j h s. (of.whole.guards j h s).1) k g at_guard leaf.last up) in
       let level_c : c.stratum ≡ slice_index table (cell_named p c.name) = (All-contains (IsCellOf p table) net.cells c of.cells.cells (same-elements net.cells c asked.cell at_c)).stratum in
       let level_d : d.stratum ≡ slice_index table (cell_named p d.name) = (All-contains (IsCellOf p table) net.cells d of.cells.cells (same-elements net.cells d told.cell at_d)).stratum in
       let le = All-contains (Allows table (slice_index table (cell_named p d.name))) (map (guard_named p) own.0.path) (named_guard net.cells g) (told-allows table own.0 fits strata x in_x) in_path z (atom-named net.cells g.ask asked c at_c in_ask) in
-      subst (λ (m : ℕ). c.stratum + (if g.strict then 1 else 0) ≤ m) (sym level_d) (subst (λ (m : ℕ). m + (if g.strict then 1 else 0) ≤ slice_index table (cell_named p d.name)) (sym level_c) le)
+      subst (λ (m : ℕ). c.stratum + (if g.negative then 1 else 0) ≤ m) (sym level_d) (subst (λ (m : ℕ). m + (if g.negative then 1 else 0) ≤ slice_index table (cell_named p d.name)) (sym level_c) le)

@@ -6,26 +6,27 @@ use Rattle.token_system.specs.declared.name.CellName.TheVariants.{Declared}
 use Rattle.agent_core.specs.declared.node.Closure.{Closure}
 use Rattle.agent_core.specs.Programs.{CoreProgram}
 use Rattle.agent_core.specs.WellFormed.{IsWellFormed}
+use Rattle.agent_core.specs.StrataCounts.{strata_of}
 use Rattle.agent_laws.specs.Laws.{AreClosures}
 use Rattle.instant_net.specs.declared.locals.Local.{Local}
 use Rattle.instant_net.specs.declared.parts.NetCell.{NetCell}
 use Rattle.instant_net.specs.declared.parts.NetGuard.{NetGuard}
 use Rattle.instant_net.specs.declared.parts.NetLeaf.{NetLeaf}
 use Rattle.instant_net.specs.Locals.{AreLocalsOf}
-use Rattle.instant_net.specs.NamedLeaves.{Leaf, names_of}
+use Rattle.instant_net.specs.NamedLeaves.{NamedLeaf, names_of}
 use Rattle.instant_net.specs.Nets.{Flat, named_leaf, net_leaves, LeafIsWhole}
-use Rattle.instant_net.specs.Opened.{IsCellOf, IsNetOf, IsNet, strata_of}
+use Rattle.instant_net.specs.Opened.{IsCellOf, IsNetOf, IsNet}
 use Rattle.instant_net.specs.Programs.{root_leaves, root_occurrences}
-use Rattle.instant_net.specs.Walks.{AreNamed, IsNamed, Grown}
+use Rattle.instant_net.specs.Walks.{AreNamed, IsCellOfName, Grown, AreListedFor}
 use Rattle.instant_net.specs.Collecting.{AreCellsFor}
 use Rattle.instant_net.proofs.Counts.{length-map}
 use Rattle.instant_net.proofs.Grown.{grown-all, grown-guard, grown-leaf, grown-over}
 use Rattle.instant_net.proofs.Lists.{All-by_get}
 
 -- the cells are those of their names, the declared ones by number
-pub cells-named : (p : CoreProgram) (table : List ℕ) (ls : List Leaf) (cells : List NetCell) (locals : List Local) → AreCellsFor p table ls cells → AreLocalsOf p locals → AreNamed p locals cells
+pub cells-named : (p : CoreProgram) (table : List ℕ) (ls : List NamedLeaf) (cells : List NetCell) (locals : List Local) → AreCellsFor p table ls cells → AreLocalsOf p locals → AreNamed p locals cells
 cells-named p table ls cells locals h all = record {
-  each = All-weaker (IsCellOf p table) (IsNamed p) (λ c x. record { decl = x.decl; named = x.named; cell = x.cell }) cells h.each;
+  each = All-weaker (IsCellOf p table) (IsCellOfName p) (λ c x. record { decl = x.decl; named = x.named; cell = x.cell }) cells h.each;
   order = h.order;
   few = h.few;
   declared = λ k lt. let at = h.declared k lt in record { found = at.0; stands = at.1; named = at.2 };
@@ -33,9 +34,12 @@ cells-named p table ls cells locals h all = record {
 }
 
 module _ (p : CoreProgram) (table : List ℕ) (rs : List Closure) (t strata : ℕ) (cells : List NetCell) (guards : List NetGuard) (leaves : List NetLeaf) (is : IsWellFormed p) (own : AreClosures p rs) (long : length table ≡ length p.cells)
-    (for_them : AreCellsFor p table (root_leaves p rs t) cells) (h : Grown cells None [] 0 0 guards leaves (root_occurrences p rs t) (root_leaves p rs t)) (top : strata ≡ strata_of table) where
+    (for_them : AreCellsFor p table (root_leaves p rs t) cells) (listed : AreListedFor p cells t rs guards leaves) (top : strata ≡ strata_of table) where
   abbrev net : Flat
   net = record { instant = t; strata = strata; cells = cells; guards = guards; leaves = leaves }
+
+  h : Grown cells None [] 0 0 guards leaves (root_occurrences p rs t) (root_leaves p rs t)
+  h = listed.grown
 
   same : net_leaves net ≡ root_leaves p rs t
   same = (grown-all cells h).leaves
@@ -60,6 +64,7 @@ module _ (p : CoreProgram) (table : List ℕ) (rs : List Closure) (t strata : �
     };
     leaves = same;
     guards = (grown-all cells h).guards;
+    links = listed.linked;
     over = λ k g at i x s. grown-over cells guards h k g at i x s;
   }
 

@@ -21,7 +21,7 @@ use Rattle.agent_core.specs.Listing.{size}
 use Rattle.agent_core.specs.Leaves as core
 use Rattle.agent_core.specs.Names.{Names, name_of, local_name, new_of}
 use Rattle.agent_core.specs.Scope.{TokenFits}
-use Rattle.instant_net.specs.NamedLeaves.{Named, Guard, told_by, names_of}
+use Rattle.instant_net.specs.NamedLeaves.{Named, NamedGuard, told_by, names_of}
 use Rattle.instant_net.specs.Programs.{token_named, constraint_named, guard_named, leaf_named, root_leaves}
 use Rattle.instant_net.specs.Collecting.{IsLocal, IsSpokenBy, IsAskedBy, AddsAsked, AddsSpoken}
 use Rattle.instant_net.proofs.NodeLeaves.{below, agent-is, then-below, else-below, new-below, par-below}
@@ -95,7 +95,7 @@ one-told p l q h =
 path_names-append : (p : CoreProgram) (path : List core.Guard) (g : core.Guard) → path_names p (path ++ g ∷ []) ≡ path_names p path ++ ask_names (guard_named p g).ask
 path_names-append p path g =
     ap (λ xs. ask_names (flat_map (λ y. y.ask) xs)) (map-append (guard_named p) path (g ∷ []))
-    ∙ ap ask_names (flat_map-append (λ (y : Guard). y.ask) (map (guard_named p) path) (guard_named p g ∷ []) ∙ ap (λ xs. flat_map (λ y. y.ask) (map (guard_named p) path) ++ xs) (append-nil (guard_named p g).ask))
+    ∙ ap ask_names (flat_map-append (λ (y : NamedGuard). y.ask) (map (guard_named p) path) (guard_named p g ∷ []) ∙ ap (λ xs. flat_map (λ y. y.ask) (map (guard_named p) path) ++ xs) (append-nil (guard_named p g).ask))
     ∙ map-append (λ (x : Named). x.name) (flat_map (λ y. y.ask) (map (guard_named p) path)) (guard_named p g).ask
 
 -- what a path speaks of each leaf below it speaks of

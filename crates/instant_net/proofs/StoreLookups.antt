@@ -38,15 +38,15 @@ differ q n d = go (eq_by_cmp name_cmp q n) refl
     go true e = absurd (d (equal_names q n e))
     go false e = e
 
-less_differs : (n m : CellName) → name_cmp n m ≡ Less → n ≢ m
+pub less_differs : (n m : CellName) → name_cmp n m ≡ Less → n ≢ m
 less_differs n m h e = true_false (sym (name_itself n) ∙ ap is_eq (subst (λ (x : CellName). name_cmp n x ≡ Less) (sym e) h))
 
-in_order_tail : (c : NetCell) (cells : List NetCell) → AreInOrder (c ∷ cells) → AreInOrder cells
+pub in_order_tail : (c : NetCell) (cells : List NetCell) → AreInOrder (c ∷ cells) → AreInOrder cells
 in_order_tail c [] o = tt
 in_order_tail c (d ∷ cells) o = o.1
 
 -- the first name is before each later one
-first_name : (c : NetCell) (cells : List NetCell) (j : ℕ) (d : NetCell) → AreInOrder (c ∷ cells) → slice_get cells j ≡ Some d → name_cmp c.name d.name ≡ Less
+pub first_name : (c : NetCell) (cells : List NetCell) (j : ℕ) (d : NetCell) → AreInOrder (c ∷ cells) → slice_get cells j ≡ Some d → name_cmp c.name d.name ≡ Less
 first_name c [] j d o e = absurd (cc)
 first_name c (x ∷ cells) zero d o e = let same : x ≡ d = cc in subst (λ (y : NetCell). name_cmp c.name y.name ≡ Less) same o.0
 first_name c (x ∷ cells) (suc j) d o e = name_total.trans c.name x.name d.name o.0 (first_name x cells j d o.1 e)

@@ -22,9 +22,9 @@ use Rattle.instant_net.specs.declared.parts.NetCell.{NetCell}
 use Rattle.instant_net.specs.declared.words.How.{How}
 use Rattle.instant_net.specs.declared.words.How.TheVariants.{Or}
 use Rattle.instant_net.specs.NamedLeaves.{tell_named}
-use Rattle.instant_net.specs.Nets.{named, named_at, AtomFits}
+use Rattle.instant_net.specs.Nets.{named_atoms, named_at, AtomFits}
 use Rattle.instant_net.specs.Opened.{AreInOrder}
-use Rattle.instant_net.specs.Words.{hows, kind_hows, unknown_words, shifted, told_as, told_of, atom_told, tell_word, tell_atoms, value_in, store_in, AreLaidOut, AreWords, Lies}
+use Rattle.instant_net.specs.Words.{hows, kind_hows, unknown_words, shifted, told_by_kind, told_of, atom_told, tell_word, tell_atoms, value_in, store_in, AreLaidOut, AreWords, Lies}
 use Rattle.instant_net.proofs.WordPlaces.{IsPlaced, placed, width, within, as_many, later_words, how_at, empty_at}
 use Rattle.instant_net.proofs.WordOrders.{told-AreWords}
 use Rattle.instant_net.proofs.WordValues.{same_at, value_told, value_within, greatest_small}
@@ -33,7 +33,7 @@ use Rattle.instant_net.proofs.StoreLookups.{same_or_not, kept, kept-IsKeptFor, g
 -- THE TOLD WORD
 
 -- it is one of the cell's
-word_within : (k : Kind) (first : ℕ) (t : Token) → IsTrue (fits_kind k t) → (first ≤ (told_as k first t).word) × ((told_as k first t).word < first + length (kind_hows k))
+word_within : (k : Kind) (first : ℕ) (t : Token) → IsTrue (fits_kind k t) → (first ≤ (told_by_kind k first t).word) × ((told_by_kind k first t).word < first + length (kind_hows k))
 word_within Signal first token.On f = (omega arith, omega arith)
 word_within Signal first token.Off f = (omega arith, omega arith)
 word_within Signal first token.Clash f = (omega arith, omega arith)
@@ -47,7 +47,7 @@ word_within Number first (token.AtMost n) f = (omega arith, omega arith)
 
 -- and it is after_tell in its own way
 how_told : (k : Kind) (first : ℕ) (t : Token) (at : ℕ → How) (after : List How) → IsTrue (fits_kind k t) → ((i : ℕ) → i < length (kind_hows k) → at (first + i) ≡ get_or (kind_hows k ++ after) i Or)
-    → at (told_as k first t).word ≡ (told_as k first t).how
+    → at (told_by_kind k first t).word ≡ (told_by_kind k first t).how
 how_told Signal first token.On at after f h = ap at (omega arith) ∙ h 0 (omega arith)
 how_told Signal first token.Off at after f h = ap at (omega arith) ∙ h 0 (omega arith)
 how_told Signal first token.Clash at after f h = ap at (omega arith) ∙ h 0 (omega arith)
@@ -100,7 +100,7 @@ module _ (cells : List NetCell) (laid : AreLaidOut 0 cells) (words : List ℕ) (
     -- the words after a token of this cell is after_tell
     module _ (t : Token) (f : Fits c.cell t) where
       abbrev after : List ℕ
-      after = tell_word words (told_as c.cell.kind c.first t)
+      after = tell_word words (told_by_kind c.cell.kind c.first t)
 
       value_here : value_in after c ≡ value_with (value_in words c) t
       value_here = value_told c.cell.kind c.first t words f fits_in high_small
@@ -108,7 +108,7 @@ module _ (cells : List NetCell) (laid : AreLaidOut 0 cells) (words : List ℕ) (
       value_elsewhere : (j : ℕ) (d : NetCell) → slice_get cells j ≡ Some d → i ≢ j → value_in after d ≡ value_in words d
       value_elsewhere j d g n = same_at d.cell.kind (λ k. slice_index after k) (λ k. slice_index words k) d.first (λ k l h.
           let w = word_within c.cell.kind c.first t f in
-          get_or-set_other words (told_as c.cell.kind c.first t).word k _ 0 (apart k l h w (order)))
+          get_or-set_other words (told_by_kind c.cell.kind c.first t).word k _ 0 (apart k l h w (order)))
         where
           order : (i < j) ⊎ (j < i)
           order = go (nat_lt i j) refl
@@ -117,7 +117,7 @@ module _ (cells : List NetCell) (laid : AreLaidOut 0 cells) (words : List ℕ) (
               go true q = inl (grind (arith, nat_tests))
               go false q = inr (grind (arith, nat_tests))
 
-          apart : (k : ℕ) → d.first ≤ k → k < d.first + width d → (c.first ≤ (told_as c.cell.kind c.first t).word) × ((told_as c.cell.kind c.first t).word < c.first + width c) → (i < j) ⊎ (j < i) → k ≢ (told_as c.cell.kind c.first t).word
+          apart : (k : ℕ) → d.first ≤ k → k < d.first + width d → (c.first ≤ (told_by_kind c.cell.kind c.first t).word) × ((told_by_kind c.cell.kind c.first t).word < c.first + width c) → (i < j) ⊎ (j < i) → k ≢ (told_by_kind c.cell.kind c.first t).word
           apart k l h w (inl q) same = let b = later_words cells 0 i j c d laid e g q in omega arith
           apart k l h w (inr q) same = let b = later_words cells 0 j i d c laid g e q in omega arith
 
@@ -125,7 +125,7 @@ module _ (cells : List NetCell) (laid : AreLaidOut 0 cells) (words : List ℕ) (
       after-AreWords =
           let w = word_within c.cell.kind c.first t f in
           let l = fits_in in
-          told-AreWords cells words are (told_as c.cell.kind c.first t).word (told_as c.cell.kind c.first t).bits (told_as c.cell.kind c.first t).how (omega arith)
+          told-AreWords cells words are (told_by_kind c.cell.kind c.first t).word (told_by_kind c.cell.kind c.first t).bits (told_by_kind c.cell.kind c.first t).how (omega arith)
           (how_told c.cell.kind c.first t (λ k. slice_index_or (hows cells) k Or) here.hows_after f (how_at cells c here))
 
       module _ (order : AreInOrder cells) where
@@ -174,7 +174,7 @@ module _ (cells : List NetCell) (laid : AreLaidOut 0 cells) (order : AreInOrder 
 
   -- telling atoms in turn is telling their tokens to the store
   pub all_told : (atoms : List Atom) → All (AtomFits cells) atoms → (words : List ℕ) → AreWords cells words
-      → AreWords cells (tell_atoms cells atoms words) × (store_in cells (tell_atoms cells atoms words) ≡ tell_named (named cells atoms) (store_in cells words))
+      → AreWords cells (tell_atoms cells atoms words) × (store_in cells (tell_atoms cells atoms words) ≡ tell_named (named_atoms cells atoms) (store_in cells words))
   all_told [] fit words are = (are, refl)
   all_told (a ∷ atoms) fit words are =
       let f = All-head (AtomFits cells) a atoms fit in
@@ -184,6 +184,6 @@ module _ (cells : List NetCell) (laid : AreLaidOut 0 cells) (order : AreInOrder 
       ap (λ o. store_in cells (tell_word words (atom_told o a.token))) f.1 ∙ told_store cells laid words are a.cell f.0 f.1 a.token f.2 order in (
         rest.0,
         rest.1
-            ∙ ap (tell_named (named cells atoms)) one
-            ∙ sym (ap (λ o. tell_named (named_at o a ++ named cells atoms) (store_in cells words)) f.1),
+            ∙ ap (tell_named (named_atoms cells atoms)) one
+            ∙ sym (ap (λ o. tell_named (named_at o a ++ named_atoms cells atoms) (store_in cells words)) f.1),
       )

@@ -14,7 +14,7 @@ use Rattle.token_system.specs.Domain.{is_bound, is_cell}
 use Rattle.token_system.specs.Tokens.{fits_kind}
 use Rattle.token_system.specs.Values.{value_with, WithinDomain, IsProper}
 use Rattle.token_system.proofs.Alike.{true_false}
-use Rattle.instant_net.specs.Words.{bits_value, signal_value, number_value, kind_value, kind_hows, told_as, tell_word, shifted, offset}
+use Rattle.instant_net.specs.Words.{bits_value, signal_value, number_value, kind_value, kind_hows, told_by_kind, tell_word, shifted, offset}
 
 -- SIGNALS
 
@@ -156,7 +156,7 @@ same_at Number f g first h = ap (λ x. number_value x (f (first + 1))) (h first 
 
 -- the value of a cell after one of its tokens is told to its words
 pub value_told : (k : Kind) (first : ℕ) (t : Token) (words : List ℕ) → IsTrue (fits_kind k t) → first + length (kind_hows k) ≤ length words → (k ≡ Number → slice_index words (first + 1) < 4294967296)
-    → kind_value k (λ i. slice_index (tell_word words (told_as k first t)) i) first ≡ value_with (kind_value k (λ i. slice_index words i) first) t
+    → kind_value k (λ i. slice_index (tell_word words (told_by_kind k first t)) i) first ≡ value_with (kind_value k (λ i. slice_index words i) first) t
 value_told Signal first token.On words f l h = ap signal_value (get_or-set_same words first _ 0 (omega arith)) ∙ signal_told (slice_index words first) 1 token.On (omega arith) refl refl refl refl
 value_told Signal first token.Off words f l h = ap signal_value (get_or-set_same words first _ 0 (omega arith)) ∙ signal_told (slice_index words first) 2 token.Off (omega arith) refl refl refl refl
 value_told Signal first token.Clash words f l h = ap signal_value (get_or-set_same words first _ 0 (omega arith)) ∙ signal_told (slice_index words first) 3 token.Clash (omega arith) refl refl refl refl

@@ -9,7 +9,7 @@ use Rattle.agent_core.specs.WellFormed.{IsWellFormed}
 use Rattle.agent_core.specs.Leaves as core
 use Rattle.agent_core.specs.Names.{Names}
 use Rattle.instant_net.specs.declared.parts.NetCell.{NetCell}
-use Rattle.instant_net.specs.NamedLeaves.{Leaf, names_of}
+use Rattle.instant_net.specs.NamedLeaves.{NamedLeaf, names_of}
 use Rattle.instant_net.specs.Opened.{IsCellOf, AreInOrder}
 use Rattle.instant_net.specs.Programs.{constraint_named, leaf_named}
 use Rattle.instant_net.specs.Words.{AreLaidOut, hows}
@@ -23,7 +23,7 @@ pub record IsLocal (p : CoreProgram) (n : CellName) : Type 0 where
   pub named : Names p n decl
 
 -- the name is that of a local cell, and one of these leaves speaks of it
-pub record IsSpokenBy (p : CoreProgram) (ls : List Leaf) (n : CellName) : Type 0 where
+pub record IsSpokenBy (p : CoreProgram) (ls : List NamedLeaf) (n : CellName) : Type 0 where
   pub local : IsLocal p n
   pub spoken : Contains (flat_map names_of ls) n
 
@@ -57,7 +57,7 @@ pub record IsRow (p : CoreProgram) (table : List ℕ) (cells : List NetCell) (wo
   pub few_words : words < 4294967296
 
 -- the cells are the declared ones, and local ones that these leaves speak of, in order; and their words can be numbered
-pub record AreCellsFor (p : CoreProgram) (table : List ℕ) (ls : List Leaf) (cells : List NetCell) : Type 0 where
+pub record AreCellsFor (p : CoreProgram) (table : List ℕ) (ls : List NamedLeaf) (cells : List NetCell) : Type 0 where
   pub program : IsWellFormed p
   pub each : All (IsCellOf p table) cells
   pub order : AreInOrder cells

@@ -31,15 +31,15 @@ abbrev pub RootsCovered : CoreProgram → ℕ → List CellName → List Closure
 RootsCovered p t names rs = All (λ r. AgentCovered p t names (agent_at p.nodes r.node) r.births) rs
 
 -- each name from before is there still
-abbrev pub Keeps : List CellName → List CellName → Type 0
-Keeps before after = (n : CellName) → Contains before n → Contains after n
+abbrev pub KeepsNames : List CellName → List CellName → Type 0
+KeepsNames before after = (n : CellName) → Contains before n → Contains after n
 
 -- the names from before are there, and those that the constraint needs
 pub record CoversAsk (p : CoreProgram) (b : List ℕ) (ask : Constraint) (before after : List CellName) : Type 0 where
-  pub keeps : Keeps before after
+  pub keeps : KeepsNames before after
   pub covers : AskCovered p b after ask
 
 -- the names from before are there, and those that node n needs, which is started at t under births b
 pub record CoversNode (p : CoreProgram) (t n : ℕ) (b : List ℕ) (before after : List CellName) : Type 0 where
-  pub keeps : Keeps before after
+  pub keeps : KeepsNames before after
   pub covers : AgentCovered p t after (agent_at p.nodes n) b

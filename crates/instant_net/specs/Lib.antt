@@ -1,9 +1,11 @@
+pub mod Limits
 pub mod NamedLeaves
 pub mod Occurrences
 pub mod Nets
 pub mod Readers
 pub mod Programs
 pub mod Words
+pub mod Links
 pub mod Opened
 pub mod Outputs
 pub mod Locals

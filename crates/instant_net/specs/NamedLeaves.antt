@@ -16,8 +16,8 @@ pub record Named : Type 0 where
   pub token : Token
 
 -- an ask above a leaf: of a then, or of an else
-pub record Guard : Type 0 where
-  pub strict : Bool
+pub record NamedGuard : Type 0 where
+  pub negative : Bool
   pub ask : List Named
 
 -- what a leaf is: a skip, a tell of these tokens, or what starts a closure at each later instant, or at the next
@@ -28,53 +28,53 @@ pub data Kind : Type 0 where
   StartsNext : (closure : Closure) → Kind
 
 -- a leaf, and the guards above it, outermost first
-pub record Leaf : Type 0 where
+pub record NamedLeaf : Type 0 where
   pub kind : Kind
-  pub path : List Guard
+  pub path : List NamedGuard
 
 -- what a leaf tells
 abbrev pub told_by : Kind → List Named
 told_by (Tells after_tell) = after_tell
 told_by _ = []
 
-abbrev pub holds : StoreMap → Named → Bool
-holds u x = store_entails u x.name x.cell x.token
+abbrev pub named_holds : StoreMap → Named → Bool
+named_holds u x = store_entails u x.name x.cell x.token
 
-abbrev pub entails : StoreMap → List Named → Bool
-entails u ask = list_all (holds u) ask
+abbrev pub named_entails : StoreMap → List Named → Bool
+named_entails u ask = list_all (named_holds u) ask
 
 abbrev pub allowed : Bool → Bool → Bool
 allowed true entailed = not entailed
 allowed false entailed = entailed
 
 -- the store allows the guard: it does not entail an else ask, or it entails a then ask
-abbrev pub allows : StoreMap → Guard → Bool
-allows v g = allowed g.strict (entails v g.ask)
+abbrev pub allows_named : StoreMap → NamedGuard → Bool
+allows_named v g = allowed g.negative (named_entails v g.ask)
 
 -- the store runs the leaf: it allows each guard above it
-abbrev pub runs : StoreMap → Leaf → Bool
-runs v l = list_all (allows v) l.path
+abbrev pub runs_named : StoreMap → NamedLeaf → Bool
+runs_named v l = list_all (allows_named v) l.path
 
 -- the store reaches the occurrence: it allows each guard above it
-abbrev pub reaches : StoreMap → Occurrence Guard → Bool
-reaches v o = list_all (allows v) o.path
+abbrev pub reaches_named : StoreMap → Occurrence NamedGuard → Bool
+reaches_named v o = list_all (allows_named v) o.path
 
 -- the guard is an else, which v does not entail, or a then
-abbrev pub free : StoreMap → Guard → Bool
-free v g = cond g.strict (not (entails v g.ask)) true
+abbrev pub named_free : StoreMap → NamedGuard → Bool
+named_free v g = cond g.negative (not (named_entails v g.ask)) true
 
 -- the guard is a then, which u entails, or an else
-abbrev pub asked : StoreMap → Guard → Bool
-asked u g = cond g.strict true (entails u g.ask)
+abbrev pub named_asked : StoreMap → NamedGuard → Bool
+named_asked u g = cond g.negative true (named_entails u g.ask)
 
 -- the leaf rests under (u, v): where v entails no else ask above it, u entails what it tells if u entails each then ask above it, and so does v
-abbrev pub leaf_rests : StoreMap → StoreMap → Leaf → Bool
-leaf_rests u v l =
-    list_all (free v) l.path
-    ⇒ ((list_all (asked u) l.path ⇒ entails u (told_by l.kind)) && (list_all (asked v) l.path ⇒ entails v (told_by l.kind)))
+abbrev pub named_leaf_rests : StoreMap → StoreMap → NamedLeaf → Bool
+named_leaf_rests u v l =
+    list_all (named_free v) l.path
+    ⇒ ((list_all (named_asked u) l.path ⇒ named_entails u (told_by l.kind)) && (list_all (named_asked v) l.path ⇒ named_entails v (told_by l.kind)))
 
-abbrev pub leaves_rest : List Leaf → StoreMap → StoreMap → Bool
-leaves_rest ls u v = list_all (leaf_rests u v) ls
+abbrev pub leaves_rest : List NamedLeaf → StoreMap → StoreMap → Bool
+leaves_rest ls u v = list_all (named_leaf_rests u v) ls
 
 -- the store after each of the tokens is after_tell
 abbrev pub tell_named : List Named → StoreMap → StoreMap
@@ -82,5 +82,5 @@ tell_named [] u = u
 tell_named (x ∷ named) u = tell_named named (after_tell u x.name x.cell x.token)
 
 -- the names that a leaf speaks of
-abbrev pub names_of : Leaf → List CellName
+abbrev pub names_of : NamedLeaf → List CellName
 names_of l = map (λ x. x.name) (told_by l.kind ++ flat_map (λ g. g.ask) l.path)

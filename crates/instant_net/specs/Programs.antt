@@ -9,7 +9,7 @@ use Rattle.agent_core.specs.Names.{name_of}
 use Rattle.agent_core.specs.Closures.{closure}
 use Rattle.agent_core.specs.Leaves as core
 use Rattle.instant_net.specs.Occurrences.{Occurrence, occurrences}
-use Rattle.instant_net.specs.NamedLeaves.{Named, Guard, Kind, Idle, Tells, StartsHence, StartsNext, Leaf}
+use Rattle.instant_net.specs.NamedLeaves.{Named, NamedGuard, Kind, Idle, Tells, StartsHence, StartsNext, NamedLeaf}
 
 abbrev pub token_named : CoreProgram → List ℕ → ℕ → Token → Option CellDecl → List Named
 token_named p b cell t None = []
@@ -20,9 +20,9 @@ abbrev pub constraint_named : CoreProgram → List ℕ → Constraint → List N
 constraint_named p b [] = []
 constraint_named p b (x ∷ ask) = token_named p b x.0 x.1 (slice_get p.cells x.0) ++ constraint_named p b ask
 
-abbrev pub guard_named : CoreProgram → core.Guard → Guard
-guard_named p (core.Positive b ask) = record { strict = false; ask = constraint_named p b ask }
-guard_named p (core.Negative b ask) = record { strict = true; ask = constraint_named p b ask }
+abbrev pub guard_named : CoreProgram → core.Guard → NamedGuard
+guard_named p (core.Positive b ask) = record { negative = false; ask = constraint_named p b ask }
+guard_named p (core.Negative b ask) = record { negative = true; ask = constraint_named p b ask }
 
 -- what the agent of node n is as a leaf: a hence or a next starts its body, which has the number behind its own, under its births
 abbrev pub kind_named : CoreProgram → ℕ → List ℕ → Agent → Kind
@@ -31,27 +31,27 @@ kind_named p n b (Hence a) = StartsHence (closure (suc n) b)
 kind_named p n b (Next a) = StartsNext (closure (suc n) b)
 kind_named p n b _ = Idle
 
-abbrev pub leaf_named : CoreProgram → core.Leaf → Leaf
+abbrev pub leaf_named : CoreProgram → core.Leaf → NamedLeaf
 leaf_named p l = record { kind = kind_named p l.node l.births l.agent; path = map (guard_named p) l.path }
 
 -- the leaves of these roots at instant t
-abbrev pub root_leaves : CoreProgram → List Closure → ℕ → List Leaf
+abbrev pub root_leaves : CoreProgram → List Closure → ℕ → List NamedLeaf
 root_leaves p rs t = map (leaf_named p) (core.leaves p rs t)
 
-abbrev pub occurrence_named : CoreProgram → Occurrence core.Guard → Occurrence Guard
+abbrev pub occurrence_named : CoreProgram → Occurrence core.Guard → Occurrence NamedGuard
 occurrence_named p o = record { guard = guard_named p o.guard; path = map (guard_named p) o.path }
 
 -- the thens and elses of these roots at instant t
-abbrev pub root_occurrences : CoreProgram → List Closure → ℕ → List (Occurrence Guard)
+abbrev pub root_occurrences : CoreProgram → List Closure → ℕ → List (Occurrence NamedGuard)
 root_occurrences p rs t = map (occurrence_named p) (occurrences p rs t)
 
 -- how many leaves an agent has within the instant
-abbrev pub leaf_count : Agent → ℕ
-leaf_count Skip = 1
-leaf_count (Tell told) = 1
-leaf_count (Then ask a) = leaf_count a
-leaf_count (Else ask a) = leaf_count a
-leaf_count (Par a b) = leaf_count a + leaf_count b
-leaf_count (New cell a) = leaf_count a
-leaf_count (Hence a) = 1
-leaf_count (Next a) = 1
+abbrev pub agent_leaf_count : Agent → ℕ
+agent_leaf_count Skip = 1
+agent_leaf_count (Tell told) = 1
+agent_leaf_count (Then ask a) = agent_leaf_count a
+agent_leaf_count (Else ask a) = agent_leaf_count a
+agent_leaf_count (Par a b) = agent_leaf_count a + agent_leaf_count b
+agent_leaf_count (New cell a) = agent_leaf_count a
+agent_leaf_count (Hence a) = 1
+agent_leaf_count (Next a) = 1

@@ -11,9 +11,9 @@ use Rattle.instant_net.specs.Nets.{atoms_of}
 
 -- LEAVES
 
-abbrev pub tells_of : Option NetLeaf → List Atom
-tells_of None = []
-tells_of (Some l) = atoms_of l.kind
+abbrev pub leaf_tells_of : Option NetLeaf → List Atom
+leaf_tells_of None = []
+leaf_tells_of (Some l) = atoms_of l.kind
 
 abbrev pub last_of : Option NetLeaf → Option ℕ
 last_of None = None
@@ -48,11 +48,11 @@ starts_of (Some l) = starts_kind l.kind
 
 abbrev pub is_else_of : Option NetGuard → Bool
 is_else_of None = false
-is_else_of (Some g) = g.strict
+is_else_of (Some g) = g.negative
 
-abbrev pub ask_of : Option NetGuard → List Atom
-ask_of None = []
-ask_of (Some g) = g.ask
+abbrev pub guard_ask_of : Option NetGuard → List Atom
+guard_ask_of None = []
+guard_ask_of (Some g) = g.ask
 
 abbrev pub above_of : Option NetGuard → Option ℕ
 above_of None = None

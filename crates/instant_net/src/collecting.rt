@@ -6,7 +6,7 @@ ghost use Rattle.agent_core.specs.WellFormed.{IsWellFormed};
 ghost use Rattle.agent_core.specs.Names as names;
 ghost use Rattle.agent_core.specs.Names.{IsClosure};
 ghost use Rattle.std.specs.List.Sorted.{IsStrictlySortedBy};
-ghost use Rattle.instant_net.specs.Words.{kind_hows};
+ghost use Rattle.instant_net.specs.Words.{cell_hows};
 ghost use Rattle.agent_core.specs.Scope.{ConstraintFits};
 ghost use Rattle.agent_laws.specs.Laws.{AreClosures};
 ghost use Rattle.agent_laws.specs.Ways.{cell_named};
@@ -21,7 +21,7 @@ use crate::parts::NetCell;
 use agent_core::{Closure, Constraint, Levels, Node, Program};
 use std::alloc::{AllocError, Global};
 use std::collections::BTreeSet;
-use token_system::{Births, CellName, Kind, Memory};
+use token_system::{Births, Cell, CellName, Kind, Memory};
 
 /// What names are collected by: the program, its local cells, and the instant.
 #[derive(Clone, Copy)]
@@ -128,11 +128,11 @@ fn local_cell(program: &Program, name: &CellName) -> u32
     }
 }
 
-/// How many words a cell of the kind takes.
-fn words_of(kind: Kind) -> u32
-    ensures { result ≡ length (kind_hows kind) }
+/// How many words the cell takes.
+fn words_of(cell: Cell) -> u32
+    ensures { result ≡ length (cell_hows cell) }
 {
-    match kind {
+    match cell.kind {
         Kind::Signal => 1,
         Kind::Number => 2,
     }
@@ -164,7 +164,7 @@ impl Row {
         let decl = program.cells()[cell as usize].cell;
         let stratum = levels.list()[cell as usize];
         let first = self.words;
-        let Some(words) = first.checked_add(words_of(decl.kind)) else {
+        let Some(words) = first.checked_add(words_of(decl)) else {
             return Err(AllocError);
         };
         self.cells.push(NetCell {

@@ -13,12 +13,13 @@ mod parts;
 mod walking;
 mod words;
 
-pub use laws::{net_outputs_law, net_rests_law, stratified_net_law};
+pub use laws::{net_limits_law, net_outputs_law, net_rests_law, one_net_law, stratified_net_law};
 pub use net::Net;
-pub use opening::{NetFault, open_net};
+pub use opening::{MAX_LEAVES, MAX_ROOTS, NetFault, open_net};
 pub use parts::Atom;
 pub use words::{
-    How, Told, Words, declared_store, holds, open_words, put, reaches, runs, tell, value, words_store,
+    How, Told, Words, declared_store, has, holds, open_words, put, reaches, runs, tell, value,
+    words_store,
 };
 
 #[cfg(test)]

@@ -70,7 +70,7 @@ pub(crate) struct NetCell {
 /// below it, from the first of them up to the one past the last.
 #[derive(Debug, Drop)]
 pub(crate) struct NetGuard {
-    pub(crate) strict: bool,
+    pub(crate) negative: bool,
     pub(crate) ask: Atoms,
     pub(crate) above: Option<u32>,
     pub(crate) first: u32,

@@ -4,6 +4,7 @@ ghost use Rattle.std.specs.List.Sorted.{IsStrictlySortedBy};
 ghost use Rattle.agent_core.specs.Closures.{closure_cmp};
 ghost use Rattle.agent_core.specs.WellFormed.{IsWellFormed};
 ghost use Rattle.agent_laws.specs.Laws.{AreClosures};
+ghost use Rattle.instant_net.specs.Limits.{most_roots};
 
 mod fronts;
 mod making;
@@ -72,7 +73,7 @@ fn first_roots(alloc: Global, program: &Program) -> Result<Vec<Closure>, Fail>
     requires { IsWellFormed program.now }
     ensures closures { IfOk result (λ roots. AreClosures program.now roots.items) }
     ensures sorted { IfOk result (λ roots. IsStrictlySortedBy closure_cmp roots.items) }
-    ensures bounded { IfOk result (λ roots. length roots.items ≤ 131072) }
+    ensures bounded { IfOk result (λ roots. length roots.items ≤ most_roots) }
 {
     let mut roots = Vec::new(alloc);
     roots.push(Closure {

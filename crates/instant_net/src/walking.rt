@@ -1,20 +1,20 @@
 //! The guards and leaves of an instant, by a walk over the nodes of its roots.
-ghost use Rattle.std.specs.Prelude.{◌≡◌, ◌<◌, ◌++◌, ◌∷◌, [], Contains, IfOk, length, None};
+ghost use Rattle.std.specs.Prelude.{◌≡◌, ◌<◌, ◌≤◌, ◌++◌, ◌∷◌, [], Contains, IfOk, length};
 ghost use Rattle.token_system.specs.Names.{name_cmp};
 ghost use Rattle.token_system.specs.declared.name.CellName.TheVariants.{Local as LocalName};
 ghost use Rattle.agent_core.specs.Agents.{agent_at};
+ghost use Rattle.agent_core.specs.WellFormed.{IsWellFormed};
 ghost use Rattle.agent_core.specs.Names.{IsClosure};
 ghost use Rattle.agent_core.specs.Scope.{TokenFits, ConstraintFits};
 ghost use Rattle.agent_laws.specs.Laws.{AreClosures};
+ghost use Rattle.instant_net.specs.Limits.{most_roots};
 ghost use Rattle.instant_net.specs.declared.parts.NetGuard.{NetGuard as GuardValue};
 ghost use Rattle.instant_net.specs.Opened.{AreInOrder};
 ghost use Rattle.instant_net.specs.Collecting.{cell_names};
 ghost use Rattle.instant_net.specs.Covering.{TokenCovered, AskCovered, AgentCovered, RootsCovered};
-ghost use Rattle.instant_net.specs.Programs.{root_leaves, root_occurrences};
-ghost use Rattle.instant_net.specs.Walks.{AreNamed, IsPlaceOf, IsAtomOf, AreAtomsOf, IsBegun, IsEnded, Grown, Adds};
+ghost use Rattle.instant_net.specs.Walks.{AreNamed, IsPlaceOfName, IsAtomOf, AreAtomsOf, IsBegun, IsEnded, HasRoomFor, Adds, AreListedFor};
 
 use crate::locals::{Local, local_of};
-use crate::numbers::number_of;
 use crate::parts::{Atom, Atoms, LeafKind, NetCell, NetGuard, NetLeaf};
 use agent_core::{Closure, Constraint, Node, Program};
 use smallvec::SmallVec;
@@ -31,15 +31,17 @@ pub(crate) struct Parts {
 
 impl Parts {
     /// Adds a guard, whose leaves are not there yet, and gives its number.
-    fn begin_guard(&mut self, strict: bool, ask: Atoms, above: Option<u32>) -> Result<u32, Memory>
+    fn begin_guard(&mut self, negative: bool, ask: Atoms, above: Option<u32>) -> Result<u32, Memory>
+        requires few_guards { length self.old.guards.items < 4294967296 }
+        requires few_leaves { length self.old.leaves.items < 4294967296 }
         ensures number { IfOk result (λ k. k ≡ length self.old.guards.items) }
-        ensures guards { IfOk result (λ k. (g : GuardValue) × (self.new.guards.items ≡ self.old.guards.items ++ g ∷ []) × IsBegun strict ask above (length self.old.leaves.items) g) }
+        ensures guards { IfOk result (λ k. (g : GuardValue) × (self.new.guards.items ≡ self.old.guards.items ++ g ∷ []) × IsBegun negative ask above (length self.old.leaves.items) g) }
         ensures leaves { IfOk result (λ k. self.new.leaves.items ≡ self.old.leaves.items) }
     {
-        let guard = number_of(self.guards.len())?;
-        let first = number_of(self.leaves.len())?;
+        let guard = self.guards.len() as u32;
+        let first = self.leaves.len() as u32;
         self.guards.push(NetGuard {
-            strict,
+            negative,
             ask,
             above,
             first,
@@ -49,15 +51,15 @@ impl Parts {
     }
 
     /// The leaves below the guard are those from its first one on.
-    fn end_guard(&mut self, guard: u32) -> Result<(), Memory>
-        requires { guard < length self.old.guards.items }
-        ensures guards { IfOk result (λ _. IsEnded self.old.guards.items self.new.guards.items guard (length self.old.leaves.items)) }
-        ensures leaves { IfOk result (λ _. self.new.leaves.items ≡ self.old.leaves.items) }
+    fn end_guard(&mut self, guard: u32)
+        requires guard { guard < length self.old.guards.items }
+        requires few_leaves { length self.old.leaves.items < 4294967296 }
+        ensures guards { IsEnded self.old.guards.items self.new.guards.items guard (length self.old.leaves.items) }
+        ensures leaves { self.new.leaves.items ≡ self.old.leaves.items }
     {
-        let past = number_of(self.leaves.len())?;
+        let past = self.leaves.len() as u32;
         let ended = &mut self.guards[guard as usize];
         ended.past = past;
-        Ok(())
     }
 
     /// Adds a leaf.
@@ -91,7 +93,7 @@ fn place_of(cells: &[NetCell], node: u32, births: &[u32]) -> u32
     requires order { AreInOrder cells.now }
     requires few { length cells.now < 4294967296 }
     requires there { Contains (cell_names cells.now) (LocalName node births.now) }
-    ensures { IsPlaceOf cells.now (LocalName node births.now) result }
+    ensures { IsPlaceOfName cells.now (LocalName node births.now) result }
 {
     match cells.binary_search_by(|cell| compared(&cell.name, node, births)) {
         Ok(place) => place as u32,
@@ -163,6 +165,7 @@ impl Walk<'_> {
         requires named { AreNamed self.now.program.now self.now.locals.now self.now.cells.now }
         requires closure { IsClosure self.now.program.now node births.now }
         requires covered { AgentCovered self.now.program.now self.now.t (cell_names self.now.cells.now) (agent_at self.now.program.now.nodes node) births.now }
+        requires room { HasRoomFor self.now.program.now node parts.old.guards.items parts.old.leaves.items }
         ensures { IfOk result (λ _. Adds self.now.program.now self.now.cells.now self.now.t node births.now last parts.old.guards.items parts.new.guards.items parts.old.leaves.items parts.new.leaves.items) }
     {
         match &self.program.nodes()[node as usize] {
@@ -183,13 +186,15 @@ impl Walk<'_> {
                 let ask = self.atoms(births, ask)?;
                 let guard = parts.begin_guard(false, ask, last)?;
                 self.add_node(*body, births, Some(guard), parts)?;
-                parts.end_guard(guard)
+                parts.end_guard(guard);
+                Ok(())
             }
             Node::Else { ask, body } => {
                 let ask = self.atoms(births, ask)?;
                 let guard = parts.begin_guard(true, ask, last)?;
                 self.add_node(*body, births, Some(guard), parts)?;
-                parts.end_guard(guard)
+                parts.end_guard(guard);
+                Ok(())
             }
             Node::Par { left, right } => {
                 self.add_node(*left, births, last, parts)?;
@@ -214,8 +219,10 @@ pub(crate) fn net_parts(
 ) -> Result<Parts, Memory>
     requires named { AreNamed program.now locals.now cells.now }
     requires closures { AreClosures program.now roots.now }
+    requires program { IsWellFormed program.now }
+    requires few { length roots.now ≤ most_roots }
     requires covered { RootsCovered program.now t (cell_names cells.now) roots.now }
-    ensures { IfOk result (λ parts. Grown cells.now None [] 0 0 parts.guards.items parts.leaves.items (root_occurrences program.now roots.now t) (root_leaves program.now roots.now t)) }
+    ensures { IfOk result (λ parts. AreListedFor program.now cells.now t roots.now parts.guards.items parts.leaves.items) }
 {
     let walk = Walk {
         alloc,

@@ -2,15 +2,15 @@
 ghost use Rattle.std.specs.Prelude.{◌≡◌, ◌<◌, length, set, slice_get, slice_index, slice_index_or};
 ghost use Rattle.instant_net.specs.Words.{empty_words, hows, lub as lub_of, tell_atoms, tell_word, AreWords, Lies, store_in};
 ghost use Rattle.instant_net.specs.declared.words.How.TheVariants.{Or};
-ghost use Rattle.instant_net.specs.Nets.{named};
+ghost use Rattle.instant_net.specs.Nets.{named_atoms};
 ghost use Rattle.instant_net.specs.NamedLeaves.{tell_named};
-ghost use Rattle.instant_net.specs.Readers.{tells_of};
+ghost use Rattle.instant_net.specs.Readers.{leaf_tells_of};
 
 mod reading;
 mod stores;
 
 use crate::net::Net;
-pub use reading::{holds, reaches, runs, value};
+pub use reading::{has, holds, reaches, runs, value};
 use std::marker::Model;
 pub use stores::{declared_store, open_words, words_store};
 
@@ -101,10 +101,10 @@ pub fn put(net: &Net, words: &mut Words, word: u32, content: u64)
 pub fn tell(net: &Net, words: &mut Words, leaf: u32)
     requires leaf { leaf < length net.now.leaves }
     requires words { AreWords net.now.cells words.old }
-    ensures told { words.new ≡ tell_atoms net.now.cells (tells_of (slice_get net.now.leaves leaf)) words.old }
+    ensures told { words.new ≡ tell_atoms net.now.cells (leaf_tells_of (slice_get net.now.leaves leaf)) words.old }
     ensures words { AreWords net.now.cells words.new }
     ensures store { store_in net.now.cells words.new
-        ≡ tell_named (named net.now.cells (tells_of (slice_get net.now.leaves leaf))) (store_in net.now.cells words.old) }
+        ≡ tell_named (named_atoms net.now.cells (leaf_tells_of (slice_get net.now.leaves leaf))) (store_in net.now.cells words.old) }
 {
     for atom in net.tells(leaf) {
         words.take(net.told(*atom));

@@ -6,10 +6,10 @@ use Rattle.token_system.specs.Stores.{StoreMap}
 use Rattle.agent_core.specs.declared.node.Closure.{Closure}
 use Rattle.agent_core.specs.Agents.{Agent, Skip, Tell, Then, Else, Par, New, Hence, Next, agent_at}
 use Rattle.agent_core.specs.Programs.{CoreProgram}
-use Rattle.instant_net.specs.NamedLeaves.{Kind, Idle, Tells, StartsHence, StartsNext, Leaf, runs}
+use Rattle.instant_net.specs.NamedLeaves.{Kind, Idle, Tells, StartsHence, StartsNext, NamedLeaf, runs_named}
 use Rattle.instant_net.specs.Nets.{Flat, net_leaves, named_leaf}
-use Rattle.instant_net.specs.Opened.{IsNetOf, IsSmall}
-use Rattle.instant_net.specs.Programs.{leaf_count, root_leaves}
+use Rattle.instant_net.specs.Opened.{IsNetOf, IsSmallNet}
+use Rattle.instant_net.specs.Programs.{agent_leaf_count, root_leaves}
 use Rattle.instant_net.proofs.Counts.{length-map, length-first}
 use Rattle.residuals.specs.NextRoots.{hence_body, next_body, started_by}
 
@@ -22,7 +22,7 @@ filter-few {X} P (x ∷ xs) = go (P x) (filter-few P xs)
     go false h = omega arith
 
 -- each leaf starts one closure at most
-both-few : (ls : List Leaf) → length (filter_map (λ l. next_body l.kind) ls) + length (filter_map (λ l. hence_body l.kind) ls) ≤ length ls
+both-few : (ls : List NamedLeaf) → length (filter_map (λ l. next_body l.kind) ls) + length (filter_map (λ l. hence_body l.kind) ls) ≤ length ls
 both-few [] = omega arith
 both-few (l ∷ ls) = go l.kind (both-few ls)
   where
@@ -33,15 +33,15 @@ both-few (l ∷ ls) = go l.kind (both-few ls)
     go (StartsHence c) h = omega arith
     go (StartsNext c) h = omega arith
 
-pub started-few : (net : Flat) (w : StoreMap) → IsSmall net → length (started_by next_body net w) + length (started_by hence_body net w) ≤ 65536
+pub started-few : (net : Flat) (w : StoreMap) → IsSmallNet net → length (started_by next_body net w) + length (started_by hence_body net w) ≤ 65536
 started-few net w small =
-    let h = both-few (filter (runs w) (net_leaves net)) in
-    let g = filter-few (runs w) (net_leaves net) in
+    let h = both-few (filter (runs_named w) (net_leaves net)) in
+    let g = filter-few (runs_named w) (net_leaves net) in
     let f = length-map (named_leaf net) net.leaves in
     let few = small.leaves in
     omega arith
 
-count-some : (a : Agent) → 1 ≤ leaf_count a
+count-some : (a : Agent) → 1 ≤ agent_leaf_count a
 count-some Skip = omega arith
 count-some (Tell c) = omega arith
 count-some (Then c a) = count-some a
@@ -59,7 +59,7 @@ roots-leaves p (r ∷ rs) t =
     omega (arith, length-first p r rs t)
 
 -- each root has a leaf
-pub roots-few : (p : CoreProgram) (table : List ℕ) (rs : List Closure) (t : ℕ) (net : Flat) → IsNetOf p table rs t net → IsSmall net → length rs ≤ 65536
+pub roots-few : (p : CoreProgram) (table : List ℕ) (rs : List Closure) (t : ℕ) (net : Flat) → IsNetOf p table rs t net → IsSmallNet net → length rs ≤ 65536
 roots-few p table rs t net is small =
     let h = roots-leaves p rs t in
     let g = ap length is.leaves in

@@ -13,22 +13,22 @@ use Rattle.agent_laws.proofs.Ascending.{in_order, sorted-ascending}
 use Rattle.agent_laws.proofs.NextRoots.{roots-next}
 use Rattle.instant_net.specs.Nets.{Flat}
 use Rattle.instant_net.specs.Opened.{IsNetOf, IsNet}
-use Rattle.residuals.specs.RootLists.{RootLists, listed, AreRootLists, goes, AreRootsOf}
+use Rattle.residuals.specs.RootLists.{RootLists, listed_roots, AreRootLists, goes, AreRootsOf}
 use Rattle.residuals.specs.NextRoots.{hence_body, next_body, started_by, next_lists, IsNetOfRoots, FollowRoots}
 use Rattle.residuals.proofs.SortedClosures.{filter-to, filter-sorted, filter-twice, filter-others, sorted-parts, sorted-few}
 use Rattle.residuals.proofs.StartedLeaves.{hence-started, next-started}
 use Rattle.residuals.proofs.LeafCounts.{started-few, roots-few, filter-few}
 
 -- where they are the roots of a list, they are those of all of them
-pub roots-own : (p : CoreProgram) (rs : List Closure) (now : RootLists) → AreRootsOf p rs now → AreRootsOf p (listed now) now
+pub roots-own : (p : CoreProgram) (rs : List Closure) (now : RootLists) → AreRootsOf p rs now → AreRootsOf p (listed_roots now) now
 roots-own p rs now of = subst (λ (cs : List Closure). AreRootsOf p cs now) (sym of.all) of
 
 -- the net of a program's roots
-pub net-of_roots : (p : CoreProgram) (table : List ℕ) (rs : List Closure) (t : ℕ) (now : RootLists) (net : Flat) → AreRootsOf p rs now → IsNetOf p table (listed now) t net → IsNetOfRoots net now
+pub net-of_roots : (p : CoreProgram) (table : List ℕ) (rs : List Closure) (t : ℕ) (now : RootLists) (net : Flat) → AreRootsOf p rs now → IsNetOf p table (listed_roots now) t net → IsNetOfRoots net now
 net-of_roots p table rs t now net of is = record {
   program = p;
   table = table;
-  of = subst (λ (k : ℕ). IsNetOf p table (listed now) k net) (sym is.instant) is;
+  of = subst (λ (k : ℕ). IsNetOf p table (listed_roots now) k net) (sym is.instant) is;
   roots = roots-own p rs now of;
 }
 
@@ -79,12 +79,12 @@ pub lists-keep : (net : Flat) (w : StoreMap) (now : RootLists) → IsNet net →
 lists-keep net w now whole is = record {
   once = in_order (sorted (started_by next_body net w)) (sorted-ascending (started_by next_body net w));
   stay = in_order (sorted (now.stay ++ started_by hence_body net w)) (sorted-ascending (now.stay ++ started_by hence_body net w));
-  apart = apart-by is.program (sorted (next_of is.program w net.instant (listed now))) (next_lists net w now) (lists-are is.program is.table (listed now) net.instant net is.of w now is.roots);
+  apart = apart-by is.program (sorted (next_of is.program w net.instant (listed_roots now))) (next_lists net w now) (lists-are is.program is.table (listed_roots now) net.instant net is.of w now is.roots);
   few =
       let new = started-few net w whole.small in
-      let old = roots-few is.program is.table (listed now) net.instant net is.of whole.small in
+      let old = roots-few is.program is.table (listed_roots now) net.instant net is.of whole.small in
       let stayed = ap length is.roots.stay in
-      let part = filter-few (stays is.program) (listed now) in
+      let part = filter-few (stays is.program) (listed_roots now) in
       let a = sorted-few (started_by next_body net w) in
       let b = sorted-few (now.stay ++ started_by hence_body net w) in
       omega (arith, length-append now.stay (started_by hence_body net w));

@@ -24,7 +24,7 @@ use Rattle.agent_core.proofs.ListingTrees.{left_listed, right_listed, listed_tre
 use Rattle.agent_core.proofs.Scopes.{closure_fits, placed}
 use Rattle.agent_laws.specs.NextRoots.{is_hence, stays, starts}
 use Rattle.agent_laws.proofs.Eachs.{all_each}
-use Rattle.instant_net.specs.NamedLeaves.{Named, Kind, Idle, Tells, StartsHence, StartsNext, Leaf, allows, runs}
+use Rattle.instant_net.specs.NamedLeaves.{Named, Kind, Idle, Tells, StartsHence, StartsNext, NamedLeaf, allows_named, runs_named}
 use Rattle.instant_net.specs.Nets.{Flat}
 use Rattle.instant_net.specs.Opened.{IsNetOf}
 use Rattle.instant_net.specs.Programs.{constraint_named, guard_named, leaf_named, root_leaves}
@@ -59,15 +59,15 @@ selects_next p = record {
   next = λ n b a e. sym (ap (λ (x : Agent). kept (not (is_hence x)) (closure (suc n) b)) e);
 }
 
-pub started_of-append : (body : Kind → Option Closure) (w : StoreMap) (xs ys : List Leaf) → started_of body (xs ++ ys) w ≡ started_of body xs w ++ started_of body ys w
+pub started_of-append : (body : Kind → Option Closure) (w : StoreMap) (xs ys : List NamedLeaf) → started_of body (xs ++ ys) w ≡ started_of body xs w ++ started_of body ys w
 started_of-append body w xs ys =
-    ap (filter_map (λ l. body l.kind)) (filter-append (runs w) xs ys) ∙ filter_map-append (λ l. body l.kind) (filter (runs w) xs) (filter (runs w) ys)
+    ap (filter_map (λ l. body l.kind)) (filter-append (runs_named w) xs ys) ∙ filter_map-append (λ l. body l.kind) (filter (runs_named w) xs) (filter (runs_named w) ys)
 
 -- what one leaf starts
-pub started_of-one : (body : Kind → Option Closure) (w : StoreMap) (l : Leaf) (o : Option Closure) → body l.kind ≡ o → started_of body (l ∷ []) w ≡ cond (runs w l) (cons_option o []) []
-started_of-one body w l o e = go (runs w l)
+pub started_of-one : (body : Kind → Option Closure) (w : StoreMap) (l : NamedLeaf) (o : Option Closure) → body l.kind ≡ o → started_of body (l ∷ []) w ≡ cond (runs_named w l) (cons_option o []) []
+started_of-one body w l o e = go (runs_named w l)
   where
-    go : (b : Bool) → filter_map (λ (l : Leaf). body l.kind) (cond b (l ∷ []) []) ≡ cond b (cons_option o []) []
+    go : (b : Bool) → filter_map (λ (l : NamedLeaf). body l.kind) (cond b (l ∷ []) []) ≡ cond b (cons_option o []) []
     go true = ap (λ (o : Option Closure). cons_option o []) e
     go false = refl
 
@@ -97,13 +97,13 @@ module _ (S : Closure → Bool) where
 module _ (p : CoreProgram) (w : StoreMap) (t : ℕ) (S : Closure → Bool) (body : Kind → Option Closure) (selects : Selects p S body) where
   -- whether the store allows the guards
   abbrev is_open : List core.Guard → Bool
-  is_open path = list_all (allows w) (map (guard_named p) path)
+  is_open path = list_all (allows_named w) (map (guard_named p) path)
 
-  open-more : (path : List core.Guard) (g : core.Guard) (e : Bool) → allows w (guard_named p g) ≡ e → is_open (path ++ g ∷ []) ≡ (is_open path && e)
+  open-more : (path : List core.Guard) (g : core.Guard) (e : Bool) → allows_named w (guard_named p g) ≡ e → is_open (path ++ g ∷ []) ≡ (is_open path && e)
   open-more path g e h =
-      ap (list_all (allows w)) (map-append (guard_named p) path (g ∷ []))
-      ∙ list_all-append (allows w) (map (guard_named p) path) (guard_named p g ∷ [])
-      ∙ ap (λ (r : Bool). is_open path && r) (and-true (allows w (guard_named p g)) ∙ h)
+      ap (list_all (allows_named w)) (map-append (guard_named p) path (g ∷ []))
+      ∙ list_all-append (allows_named w) (map (guard_named p) path) (guard_named p g ∷ [])
+      ∙ ap (λ (r : Bool). is_open path && r) (and-true (allows_named w (guard_named p g)) ∙ h)
 
   -- what is started beyond the path
   abbrev beyond : List core.Guard → List Closure → List Closure
@@ -132,7 +132,7 @@ module _ (p : CoreProgram) (w : StoreMap) (t : ℕ) (S : Closure → Bool) (body
       let right : List core.Leaf = core.leaves_of t r (suc n + size l) b path in
       let first : List Closure = started p (w ∷ []) l (suc n) b t in
       let second : List Closure = started p (w ∷ []) r (suc n + size l) b t in
-      ap (λ (ls : List Leaf). started_of body ls w) (map-append (leaf_named p) left right)
+      ap (λ (ls : List NamedLeaf). started_of body ls w) (map-append (leaf_named p) left right)
       ∙ started_of-append body w (map (leaf_named p) left) (map (leaf_named p) right)
       ∙ ap (λ (cs : List Closure). cs ++ started_of body (map (leaf_named p) right) w) (leaves-started l (suc n) b path f.0 (left_listed l r at))
       ∙ ap (λ (cs : List Closure). beyond path first ++ cs) (leaves-started r (suc n + size l) b path f.1 (right_listed l r at))
@@ -144,7 +144,7 @@ module _ (p : CoreProgram) (w : StoreMap) (t : ℕ) (S : Closure → Bool) (body
   roots-started is (r ∷ rs) own =
       let here : List core.Leaf = core.leaves_of t (agent_at p.nodes r.node) r.node r.births [] in
       let at = (placed p is r.node own.0.node).1.place.listed in
-      ap (λ (ls : List Leaf). started_of body ls w) (map-append (leaf_named p) here (core.leaves p rs t))
+      ap (λ (ls : List NamedLeaf). started_of body ls w) (map-append (leaf_named p) here (core.leaves p rs t))
       ∙ started_of-append body w (map (leaf_named p) here) (root_leaves p rs t)
       ∙ ap (λ (cs : List Closure). cs ++ started_of body (root_leaves p rs t) w) (leaves-started (agent_at p.nodes r.node) r.node r.births [] (closure_fits p is r.node r.births own.0 t) at)
       ∙ ap (λ (cs : List Closure). filter S (starts p w t r) ++ cs) (roots-started is rs own.1)
@@ -154,10 +154,10 @@ module _ (p : CoreProgram) (w : StoreMap) (t : ℕ) (S : Closure → Bool) (body
 module _ (p : CoreProgram) (table : List ℕ) (rs : List Closure) (t : ℕ) (net : Flat) (is : IsNetOf p table rs t net) (w : StoreMap) where
   pub hence-started : started_by hence_body net w ≡ filter (stays p) (flat_map (starts p w t) rs)
   hence-started =
-      ap (λ (ls : List Leaf). started_of hence_body ls w) is.leaves
+      ap (λ (ls : List NamedLeaf). started_of hence_body ls w) is.leaves
       ∙ roots-started p w t (stays p) hence_body (selects_hence p) is.program rs (all_each (λ r. IsClosure p r.node r.births) rs is.roots)
 
   pub next-started : started_by next_body net w ≡ filter (goes p) (flat_map (starts p w t) rs)
   next-started =
-      ap (λ (ls : List Leaf). started_of next_body ls w) is.leaves
+      ap (λ (ls : List NamedLeaf). started_of next_body ls w) is.leaves
       ∙ roots-started p w t (goes p) next_body (selects_next p) is.program rs (all_each (λ r. IsClosure p r.node r.births) rs is.roots)

@@ -10,7 +10,7 @@ use Rattle.agent_core.specs.Closures.{sorted}
 use Rattle.instant_net.specs.declared.parts.NetLeaf.{NetLeaf}
 use Rattle.instant_net.specs.declared.parts.LeafKind.{LeafKind}
 use Rattle.instant_net.specs.declared.parts.LeafKind.TheVariants as kinds
-use Rattle.instant_net.specs.NamedLeaves.{Kind, Leaf, runs}
+use Rattle.instant_net.specs.NamedLeaves.{Kind, NamedLeaf, runs_named}
 use Rattle.instant_net.specs.Nets.{Flat, named_kind, named_leaf}
 use Rattle.instant_net.specs.Readers.{starts_kind, starts_of, is_hence_kind, is_hence_of}
 use Rattle.residuals.specs.RootLists.{RootLists}
@@ -32,10 +32,10 @@ module _ (net : Flat) (w : StoreMap) where
   one ran o = cond ran (cons_option o []) []
 
   begun-more : (body : Kind → Option Closure) (i : ℕ) (l : NetLeaf) (o : Option Closure) → slice_get net.leaves i ≡ Some l → body (named_kind net.cells l.kind) ≡ o
-      → begun body (i + 1) ≡ begun body i ++ one (runs w (named_leaf net l)) o
+      → begun body (i + 1) ≡ begun body i ++ one (runs_named w (named_leaf net l)) o
   begun-more body i l o at e =
       ap (λ (ls : List NetLeaf). started_of body (map (named_leaf net) ls) w) (take_more net.leaves i l (slice_get_within net.leaves i l at) ∙ ap (λ (x : NetLeaf). take i net.leaves ++ x ∷ []) (get_or_from_slice_get net.leaves i l l at))
-      ∙ ap (λ (ls : List Leaf). started_of body ls w) (map-append (named_leaf net) (take i net.leaves) (l ∷ []))
+      ∙ ap (λ (ls : List NamedLeaf). started_of body ls w) (map-append (named_leaf net) (take i net.leaves) (l ∷ []))
       ∙ started_of-append body w (map (named_leaf net) (take i net.leaves)) (named_leaf net l ∷ [])
       ∙ ap (λ (cs : List Closure). begun body i ++ cs) (started_of-one body w (named_leaf net l) o e)
 
@@ -82,11 +82,11 @@ module _ (net : Flat) (w : StoreMap) where
 
   module _ (old once stay : List Closure) (i : ℕ) (so : AreBegun old once stay i) where
     with_leaf : (l : NetLeaf) (n h : Option Closure) → slice_get net.leaves i ≡ Some l → Starts l.kind n h → (once' stay' : List Closure)
-        → once' ≡ once ++ one (runs w (named_leaf net l)) n → stay' ≡ stay ++ one (runs w (named_leaf net l)) h → AreBegun old once' stay' (i + 1)
+        → once' ≡ once ++ one (runs_named w (named_leaf net l)) n → stay' ≡ stay ++ one (runs_named w (named_leaf net l)) h → AreBegun old once' stay' (i + 1)
     with_leaf l n h at s once' stay' e f = record {
-      once_is = e ∙ ap (λ (cs : List Closure). cs ++ one (runs w (named_leaf net l)) n) so.once_is ∙ sym (begun-more next_body i l n at s.by_next);
+      once_is = e ∙ ap (λ (cs : List Closure). cs ++ one (runs_named w (named_leaf net l)) n) so.once_is ∙ sym (begun-more next_body i l n at s.by_next);
       stay_is =
-          f ∙ ap (λ (cs : List Closure). cs ++ one (runs w (named_leaf net l)) h) so.stay_is ∙ append_assoc old (begun hence_body i) (one (runs w (named_leaf net l)) h)
+          f ∙ ap (λ (cs : List Closure). cs ++ one (runs_named w (named_leaf net l)) h) so.stay_is ∙ append_assoc old (begun hence_body i) (one (runs_named w (named_leaf net l)) h)
           ∙ ap (λ (cs : List Closure). old ++ cs) (sym (begun-more hence_body i l h at s.by_hence));
     }
 
@@ -95,9 +95,9 @@ module _ (net : Flat) (w : StoreMap) where
     begun-none lt none = go (there i lt)
       where
         go : (l : NetLeaf) × (slice_get net.leaves i ≡ Some l) → AreBegun old once stay (i + 1)
-        go (l, at) = with_leaf l None None at (starts_none l.kind (ap starts_of (sym at) ∙ none)) once stay (none_more (runs w (named_leaf net l)) once) (none_more (runs w (named_leaf net l)) stay)
+        go (l, at) = with_leaf l None None at (starts_none l.kind (ap starts_of (sym at) ∙ none)) once stay (none_more (runs_named w (named_leaf net l)) once) (none_more (runs_named w (named_leaf net l)) stay)
 
-    module _ (lt : i < length net.leaves) (ran : Bool) (by : (l : NetLeaf) → slice_get net.leaves i ≡ Some l → ran ≡ runs w (named_leaf net l)) (once' stay' : List Closure) where
+    module _ (lt : i < length net.leaves) (ran : Bool) (by : (l : NetLeaf) → slice_get net.leaves i ≡ Some l → ran ≡ runs_named w (named_leaf net l)) (once' stay' : List Closure) where
       -- one that the store does not run
       pub begun-idle : ran ≡ false → once' ≡ once → stay' ≡ stay → AreBegun old once' stay' (i + 1)
       begun-idle fails e f = go (there i lt)
@@ -106,7 +106,7 @@ module _ (net : Flat) (w : StoreMap) where
           go (l, at) =
               let n : Option Closure = next_body (named_kind net.cells l.kind) in
               let h : Option Closure = hence_body (named_kind net.cells l.kind) in
-              let is : runs w (named_leaf net l) ≡ false = sym (by l at) ∙ fails in
+              let is : runs_named w (named_leaf net l) ≡ false = sym (by l at) ∙ fails in
               with_leaf l n h at (record { by_next = refl; by_hence = refl }) once' stay' (e ∙ idle_more _ n once is) (f ∙ idle_more _ h stay is)
 
       module _ (yes : ran ≡ true) (c : Closure) (starts : starts_of (slice_get net.leaves i) ≡ Some c) where
@@ -116,7 +116,7 @@ module _ (net : Flat) (w : StoreMap) where
           where
             go : (l : NetLeaf) × (slice_get net.leaves i ≡ Some l) → AreBegun old once' stay' (i + 1)
             go (l, at) =
-                let is : runs w (named_leaf net l) ≡ true = sym (by l at) ∙ yes in
+                let is : runs_named w (named_leaf net l) ≡ true = sym (by l at) ∙ yes in
                 with_leaf l None (Some c) at (starts_hence l.kind c (ap starts_of (sym at) ∙ starts) (ap is_hence_of (sym at) ∙ hence)) once' stay' (e ∙ none_more _ once) (f ∙ one_more _ c stay is)
 
         -- a next that it runs
@@ -125,7 +125,7 @@ module _ (net : Flat) (w : StoreMap) where
           where
             go : (l : NetLeaf) × (slice_get net.leaves i ≡ Some l) → AreBegun old once' stay' (i + 1)
             go (l, at) =
-                let is : runs w (named_leaf net l) ≡ true = sym (by l at) ∙ yes in
+                let is : runs_named w (named_leaf net l) ≡ true = sym (by l at) ∙ yes in
                 with_leaf l (Some c) None at (starts_next l.kind c (ap starts_of (sym at) ∙ starts) (ap is_hence_of (sym at) ∙ hence)) once' stay' (e ∙ one_more _ c once is) (f ∙ none_more _ stay)
 
   -- past the last leaf

@@ -3,7 +3,8 @@ ghost use Rattle.std.specs.Prelude.{◌≡◌, ◌+◌, ◌≤◌, ◌↔◌, []
 ghost use Rattle.std.specs.List.Sorted.{IsStrictlySortedBy};
 ghost use Rattle.agent_core.specs.Programs.{CoreProgram};
 ghost use Rattle.agent_core.specs.Closures.{closure, closure_cmp, roots};
-ghost use Rattle.residuals.specs.RootLists.{listed, AreRootLists, AreRootsOf};
+ghost use Rattle.instant_net.specs.Limits.{most_roots};
+ghost use Rattle.residuals.specs.RootLists.{listed_roots, AreRootLists, AreRootsOf};
 
 use crate::closures::{add_copies, sort};
 use agent_core::Closure;
@@ -19,6 +20,7 @@ pub struct Roots {
 }
 
 impl Model for Roots {
+    ghost use Rattle.instant_net.specs.Limits.{most_roots};
     ghost use Rattle.residuals.specs.RootLists.{RootLists, AreRootLists};
 
     ghost Value = { RootLists };
@@ -69,10 +71,10 @@ impl Roots {
     /// All roots, in their order.
     #[tactic(auto, using(crate::proofs::Listed::listed_facts))]
     pub fn list(&self, alloc: Global) -> Result<Vec<Closure>, Memory>
-        ensures all { IfOk result (λ list. list.items ≡ listed self.now) }
-        ensures sorted { IsStrictlySortedBy closure_cmp (listed self.now) }
-        ensures bounded { length (listed self.now) ≡ length self.now.once + length self.now.stay }
-        ensures within { length (listed self.now) ≤ 131072 }
+        ensures all { IfOk result (λ list. list.items ≡ listed_roots self.now) }
+        ensures sorted { IsStrictlySortedBy closure_cmp (listed_roots self.now) }
+        ensures bounded { length (listed_roots self.now) ≡ length self.now.once + length self.now.stay }
+        ensures within { length (listed_roots self.now) ≤ most_roots }
     {
         let mut list = Vec::new(alloc);
         add_copies(&mut list, self.once())?;

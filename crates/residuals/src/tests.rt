@@ -3,7 +3,7 @@ ghost use Rattle.token_system.specs.Stores.{StoreMap};
 ghost use Rattle.agent_core.specs.Closures as closures;
 ghost use Rattle.agent_core.specs.WellFormed.{IsWellFormed};
 ghost use Rattle.instant_net.specs.Opened.{IsNetOf};
-ghost use Rattle.residuals.specs.RootLists.{listed, AreRootsOf};
+ghost use Rattle.residuals.specs.RootLists.{listed_roots, AreRootsOf};
 
 use crate::{Roots, first_roots, next_roots, ran};
 use agent_core::{CellDecl, Closure, Constraint, Levels, Name, Node, Program};
@@ -61,7 +61,7 @@ fn net_at(
     requires program { IsWellFormed program.now }
     requires levels { length levels.now ≡ length program.now.cells }
     requires roots { (closed : List StoreMap) × (length closed ≡ t) × AreRootsOf program.now (closures.roots program.now closed) roots.now }
-    ensures { IfOk result (IsNetOf program.now levels.now (listed roots.now) t) }
+    ensures { IfOk result (IsNetOf program.now levels.now (listed_roots roots.now) t) }
 {
     let list = roots.list(alloc)?;
     match open_net(alloc, program, levels, &list, t, 100) {

@@ -15,10 +15,10 @@ use Rattle.instant_net.specs.Opened.{IsNetOf}
 use Rattle.instant_net.specs.Outputs as net_outputs
 use Rattle.instant_net.specs.Laws.{NetsHaveRootOutputs}
 use Rattle.instant_net.proofs.Lists.{get-append}
-use Rattle.residuals.specs.RootLists.{RootLists, listed}
+use Rattle.residuals.specs.RootLists.{RootLists, listed_roots}
 use Rattle.residuals.specs.NextRoots.{FollowRoots}
 use Rattle.run_book.specs.DeclaredParts.{IsDeclaredPart, AreDeclaredParts}
-use Rattle.run_book.specs.Books.{BookView, Keeps, IsBook, IsClosed}
+use Rattle.run_book.specs.Books.{BookView, KeepsRun, IsBook, HasClosedInstant}
 
 -- what holds of two lists place by place holds with one more of each
 each-push : {X Y : Type 0} (R : X → Y → Type 0) (xs : List X) (ys : List Y) (x : X) (y : Y) → length ys ≡ length xs
@@ -66,25 +66,25 @@ closed_book-seen v b same input part next ins outs roots e f g =
 -- what closing an instant on this input with this output comes to
 pub record Closes (before after : BookView) (input w : StoreMap) : Type 0 where
   pub book : IsBook after
-  pub closed : IsClosed before after input w
-  pub keeps : (full : List StoreMap) → Keeps before full → Keeps after (full ++ w ∷ [])
+  pub closed : HasClosedInstant before after input w
+  pub keeps : (full : List StoreMap) → KeepsRun before full → KeepsRun after (full ++ w ∷ [])
 
-module _ (b : BookView) (is : IsBook b) (laws : NetsHaveRootOutputs) (net : Flat) (of : IsNetOf b.program b.levels (listed b.roots) (length b.ins) net)
-    (input w part : StoreMap) (given : IsInput b.program input) (out : net_outputs.IsOutput net input w) (declared : IsDeclaredPart w part)
+module _ (b : BookView) (is : IsBook b) (laws : NetsHaveRootOutputs) (net : Flat) (of : IsNetOf b.program b.levels (listed_roots b.roots) (length b.ins) net)
+    (input w part : StoreMap) (given : IsInput b.program input) (out : net_outputs.IsNetOutput net input w) (declared : IsDeclaredPart w part)
     (next : RootLists) (follow : FollowRoots net w b.roots next) where
   -- what the net comes to is the program's output behind the run
-  output_behind : (full : List StoreMap) → Keeps b full → IsOutput b.program full input w
+  output_behind : (full : List StoreMap) → KeepsRun b full → IsOutput b.program full input w
   output_behind full keeps =
-      let of_roots : IsOutputOf b.program (listed b.roots) (length b.ins) input w = (laws b.program b.levels (listed b.roots) (length b.ins) net of input w given).0 out in
+      let of_roots : IsOutputOf b.program (listed_roots b.roots) (length b.ins) input w = (laws b.program b.levels (listed_roots b.roots) (length b.ins) net of input w given).0 out in
       output-of_roots b.program is.program full input w
       (subst (λ (rs : List Closure). IsOutputOf b.program rs (length full) input w) keeps.roots.all
-      (subst (λ (t : ℕ). IsOutputOf b.program (listed b.roots) t input w) (sym keeps.run.whole) of_roots))
+      (subst (λ (t : ℕ). IsOutputOf b.program (listed_roots b.roots) t input w) (sym keeps.run.whole) of_roots))
 
-  keeps-more : (full : List StoreMap) → Keeps b full → Keeps (closed_book b input part next) (full ++ w ∷ [])
+  keeps-more : (full : List StoreMap) → KeepsRun b full → KeepsRun (closed_book b input part next) (full ++ w ∷ [])
   keeps-more full keeps = record {
     run = run-push b.program b.ins full input w keeps.run (output_behind full keeps);
     declared = parts-push full b.outs w part keeps.declared declared;
-    roots = follow b.program b.levels full keeps.roots (subst (λ (t : ℕ). IsNetOf b.program b.levels (listed b.roots) t net) (sym keeps.run.whole) of);
+    roots = follow b.program b.levels full keeps.roots (subst (λ (t : ℕ). IsNetOf b.program b.levels (listed_roots b.roots) t net) (sym keeps.run.whole) of);
   }
 
   pub closes : length b.ins < 65536 → Closes b (closed_book b input part next) input w

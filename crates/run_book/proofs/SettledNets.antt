@@ -11,7 +11,7 @@ use Rattle.instant_net.specs.Nets.{Flat}
 use Rattle.instant_net.specs.Opened.{IsNetOf}
 use Rattle.instant_net.specs.Outputs as net
 use Rattle.instant_net.specs.Laws.{NetsAreStratified, NetsHaveRootOutputs}
-use Rattle.settle.specs.Ways.{IsOnWay}
+use Rattle.settle.specs.Ways.{IsOnNetWay}
 
 module _ (one : RootsHaveOneOutput) (stratified : NetsAreStratified) (outs : NetsHaveRootOutputs)
     (p : CoreProgram) (table : List ℕ) (strat : Stratifies p table) (rs : List Closure) (t : ℕ) (flat : Flat) (of : IsNetOf p table rs t flat)
@@ -22,7 +22,7 @@ module _ (one : RootsHaveOneOutput) (stratified : NetsAreStratified) (outs : Net
   is_output : IsOutputOf p rs t i output
   is_output = (one p table of.program strat rs of.roots t i input.store).1
 
-  net_output : net.IsOutput flat i output
+  net_output : net.IsNetOutput flat i output
   net_output = (outs p table rs t flat of i output input).1 is_output
 
   pub given_net : net.IsStoreOf flat.cells i
@@ -30,14 +30,14 @@ module _ (one : RootsHaveOneOutput) (stratified : NetsAreStratified) (outs : Net
 
   -- from words of the input
   pub settled_net : (before after : StoreMap) → before ≡ i
-      → ((input output : StoreMap) → net.IsStratified flat → net.IsOutput flat input output → IsOnWay flat input output 0 before → after ≡ output)
-      → net.IsOutput flat i after
+      → ((input output : StoreMap) → net.IsStratified flat → net.IsNetOutput flat input output → IsOnNetWay flat input output 0 before → after ≡ output)
+      → net.IsNetOutput flat i after
   settled_net before after same settled =
-      let way : IsOnWay flat i output 0 i = record {
+      let way : IsOnNetWay flat i output 0 i = record {
         store = net_output.given;
         above = λ c t within fits h. h;
         below = net_output.above;
         stands = λ c t within low fits h. absurd (omega arith);
       } in
-      let ends : after ≡ output = settled i output (stratified p table rs t flat of strat) net_output (subst (IsOnWay flat i output 0) (sym same) way) in
-      subst (net.IsOutput flat i) (sym ends) net_output
+      let ends : after ≡ output = settled i output (stratified p table rs t flat of strat) net_output (subst (IsOnNetWay flat i output 0) (sym same) way) in
+      subst (net.IsNetOutput flat i) (sym ends) net_output

@@ -3,6 +3,7 @@ use Rattle.std.specs.Prelude.{◌≡◌, ℕ, ◌≤◌, List, [], ◌∷◌, �
 use Rattle.token_system.specs.Stores.{StoreMap}
 use Rattle.agent_core.specs.Programs.{CoreProgram}
 use Rattle.agent_core.specs.WellFormed.{IsWellFormed}
+use Rattle.agent_core.specs.Limits.{most_instants}
 use Rattle.agent_core.specs.Stores.{IsInput}
 use Rattle.agent_core.specs.Outputs.{IsRun}
 use Rattle.agent_core.specs.Closures as closures
@@ -19,7 +20,7 @@ pub record BookView : Type 0 where
   pub roots : RootLists
 
 -- the book keeps this run of its program: the run's inputs, the declared parts of its outputs, and the roots that these outputs leave
-pub record Keeps (b : BookView) (full : List StoreMap) : Type 0 where
+pub record KeepsRun (b : BookView) (full : List StoreMap) : Type 0 where
   pub run : IsRun b.program b.ins full
   pub declared : AreDeclaredParts full b.outs
   pub roots : AreRootsOf b.program (closures.roots b.program full) b.roots
@@ -29,12 +30,12 @@ pub record IsBook (b : BookView) : Type 0 where
   pub program : IsWellFormed b.program
   pub stratified : Stratifies b.program b.levels
   pub inputs : All (IsInput b.program) b.ins
-  pub few : length b.ins ≤ 65536
+  pub few : length b.ins ≤ most_instants
   pub full : List StoreMap
-  pub keeps : Keeps b full
+  pub keeps : KeepsRun b full
 
 -- one more instant was closed, with this input and this output
-pub record IsClosed (before after : BookView) (input output : StoreMap) : Type 0 where
+pub record HasClosedInstant (before after : BookView) (input output : StoreMap) : Type 0 where
   pub program : after.program ≡ before.program
   pub levels : after.levels ≡ before.levels
   pub ins : after.ins ≡ before.ins ++ input ∷ []

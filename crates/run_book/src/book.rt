@@ -2,13 +2,14 @@
 ghost use Rattle.std.specs.Prelude.{◌≡◌, ◌∷◌, ◌++◌, ◌<◌, [], List, length, if◌then◌else◌, is_ok, IfOk, OnErr, OnOk};
 ghost use Rattle.token_system.specs.Stores.{StoreMap};
 ghost use Rattle.agent_core.specs.Closures.{closure};
+ghost use Rattle.agent_core.specs.Limits.{most_instants};
 ghost use Rattle.agent_core.specs.Stores.{IsInput};
 ghost use Rattle.agent_core.specs.Strata.{Stratifies};
 ghost use Rattle.instant_net.specs.Opened.{IsNetOf};
-ghost use Rattle.instant_net.specs.Outputs.{IsOutput};
+ghost use Rattle.instant_net.specs.Outputs.{IsNetOutput};
 ghost use Rattle.instant_net.specs.Words.{store_in, AreWords};
-ghost use Rattle.residuals.specs.RootLists.{listed};
-ghost use Rattle.run_book.specs.Books.{IsBook, IsClosed, Keeps};
+ghost use Rattle.residuals.specs.RootLists.{listed_roots};
+ghost use Rattle.run_book.specs.Books.{IsBook, HasClosedInstant, KeepsRun};
 
 use agent_core::{Levels, Program};
 use instant_net::{Net, Words, declared_store, net_outputs_law};
@@ -51,7 +52,7 @@ impl Book {
     pub fn open(alloc: Global, program: Program, levels: Levels) -> Result<Book, Memory>
         requires stratified { Stratifies program levels }
         ensures opened { IfOk result (λ b. b ≡ record { program = program; levels = levels; ins = []; outs = []; roots = record { once = closure 0 [] ∷ []; stay = [] } }) }
-        ensures keeps { IfOk result (λ b. Keeps b []) }
+        ensures keeps { IfOk result (λ b. KeepsRun b []) }
     {
         let _ = program.declared();
         let entries = Entries {
@@ -113,13 +114,13 @@ impl Book {
         input: Store,
         words: &Words,
     ) -> Result<(), Memory>
-        requires room { length self.old.ins < 65536 }
-        requires net { IsNetOf self.old.program self.old.levels (listed self.old.roots) (length self.old.ins) net.now }
+        requires room { length self.old.ins < most_instants }
+        requires net { IsNetOf self.old.program self.old.levels (listed_roots self.old.roots) (length self.old.ins) net.now }
         requires input { IsInput self.old.program input }
         requires words { AreWords net.now.cells words.now }
-        requires output { IsOutput net.now input (store_in net.now.cells words.now) }
-        ensures closed { OnOk result (IsClosed self.old self.new input (store_in net.now.cells words.now)) }
-        ensures keeps { OnOk result ((full : List StoreMap) → Keeps self.old full → Keeps self.new (full ++ store_in net.now.cells words.now ∷ [])) }
+        requires output { IsNetOutput net.now input (store_in net.now.cells words.now) }
+        ensures closed { OnOk result (HasClosedInstant self.old self.new input (store_in net.now.cells words.now)) }
+        ensures keeps { OnOk result ((full : List StoreMap) → KeepsRun self.old full → KeepsRun self.new (full ++ store_in net.now.cells words.now ∷ [])) }
         ensures unchanged { OnErr result (self.new ≡ self.old) }
     {
         net_outputs_law();

@@ -5,10 +5,10 @@ use Rattle.token_system.specs.Stores.{StoreMap}
 use Rattle.agent_core.specs.declared.node.Closure.{Closure}
 use Rattle.agent_core.specs.Programs.{CoreProgram}
 use Rattle.instant_net.specs.declared.parts.NetGuard.{NetGuard}
-use Rattle.instant_net.specs.NamedLeaves.{entails, reaches}
-use Rattle.instant_net.specs.Nets.{Flat, named, named_occurrence}
+use Rattle.instant_net.specs.NamedLeaves.{named_entails, reaches_named}
+use Rattle.instant_net.specs.Nets.{Flat, named_atoms, named_occurrence}
 use Rattle.instant_net.specs.Opened.{IsNetOf}
-use Rattle.instant_net.specs.Readers.{is_else_of, ask_of}
+use Rattle.instant_net.specs.Readers.{is_else_of, guard_ask_of}
 use Rattle.residuals.proofs.Passing.{IsPassed, passed-more, passed-all}
 use Rattle.run_report.specs.declared.counts.Report.{Report}
 use Rattle.run_report.specs.Reports.{report_of}
@@ -29,7 +29,7 @@ module _ (net : Flat) (w : StoreMap) where
     pub refuted : IsCounted refuted_way i r.refuted
     pub parked : IsCounted parked_way i r.parked
 
-  module _ (i : ℕ) (lt : i < length net.guards) (reached : Bool) (by : (g : NetGuard) → slice_get net.guards i ≡ Some g → reached ≡ reaches w (named_occurrence net g)) where
+  module _ (i : ℕ) (lt : i < length net.guards) (reached : Bool) (by : (g : NetGuard) → slice_get net.guards i ≡ Some g → reached ≡ reaches_named w (named_occurrence net g)) where
     -- a guard that is not reached
     pub counts-unreached : reached ≡ false → (r r' : Report) → r' ≡ r → AreCounts r i → AreCounts r' (i + 1)
     counts-unreached fails r r' e h = record {
@@ -40,10 +40,10 @@ module _ (net : Flat) (w : StoreMap) where
       where
         stays : (way : Way) (n m : ℕ) → m ≡ n → IsCounted way i n → IsCounted way (i + 1) m
         stays way n m e =
-            passed-more (is_counted way) net.guards i n m false lt (λ g at. ap (λ (x : Bool). x && way g.strict (entails w (named net.cells g.ask))) (sym fails ∙ by g at)) (omega arith)
+            passed-more (is_counted way) net.guards i n m false lt (λ g at. ap (λ (x : Bool). x && way g.negative (named_entails w (named_atoms net.cells g.ask))) (sym fails ∙ by g at)) (omega arith)
 
     -- one that is reached
-    module _ (passes : reached ≡ true) (is_else entailed : Bool) (else_is : is_else ≡ is_else_of (slice_get net.guards i)) (entailed_is : entailed ≡ entails w (named net.cells (ask_of (slice_get net.guards i)))) where
+    module _ (passes : reached ≡ true) (is_else entailed : Bool) (else_is : is_else ≡ is_else_of (slice_get net.guards i)) (entailed_is : entailed ≡ named_entails w (named_atoms net.cells (guard_ask_of (slice_get net.guards i)))) where
       pub counts-reached : (r r' : Report) → r'.confirmed ≡ r.confirmed + cond (confirmed_way is_else entailed) 1 0 → r'.refuted ≡ r.refuted + cond (refuted_way is_else entailed) 1 0
           → r'.parked ≡ r.parked + cond (parked_way is_else entailed) 1 0 → AreCounts r i → AreCounts r' (i + 1)
       counts-reached r r' a b c h = record {
@@ -55,8 +55,8 @@ module _ (net : Flat) (w : StoreMap) where
           fares : (way : Way) (g : NetGuard) → slice_get net.guards i ≡ Some g → way is_else entailed ≡ is_counted way g
           fares way g at =
               ap (λ (x : Bool). way x entailed) (else_is ∙ ap is_else_of at)
-              ∙ ap (way g.strict) (entailed_is ∙ ap (λ o. entails w (named net.cells (ask_of o))) at)
-              ∙ ap (λ (x : Bool). x && way g.strict (entails w (named net.cells g.ask))) (sym passes ∙ by g at)
+              ∙ ap (way g.negative) (entailed_is ∙ ap (λ o. named_entails w (named_atoms net.cells (guard_ask_of o))) at)
+              ∙ ap (λ (x : Bool). x && way g.negative (named_entails w (named_atoms net.cells g.ask))) (sym passes ∙ by g at)
 
           counted : (way : Way) (n m : ℕ) → m ≡ n + cond (way is_else entailed) 1 0 → IsCounted way i n → IsCounted way (i + 1) m
           counted way n m = passed-more (is_counted way) net.guards i n m (way is_else entailed) lt (fares way)

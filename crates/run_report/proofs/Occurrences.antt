@@ -16,7 +16,7 @@ use Rattle.agent_laws.proofs.Eachs.{Each-append, Each-map, all_each}
 use Rattle.agent_laws.proofs.Instance.{GuardFits}
 use Rattle.instant_net.specs.declared.parts.NetGuard.{NetGuard}
 use Rattle.instant_net.specs.Occurrences.{Occurrence, occurrences_of, occurrences}
-use Rattle.instant_net.specs.NamedLeaves.{Guard, entails, reaches}
+use Rattle.instant_net.specs.NamedLeaves.{NamedGuard, named_entails, reaches_named}
 use Rattle.instant_net.specs.Nets.{Flat, named_occurrence}
 use Rattle.instant_net.specs.Opened.{IsNetOf}
 use Rattle.instant_net.specs.Programs.{guard_named, occurrence_named}
@@ -63,12 +63,12 @@ abbrev pub parked_way : Way
 parked_way is_else entailed = not is_else && not entailed
 
 -- the guard fares so
-abbrev pub fares : Way → StoreMap → Guard → Bool
-fares way w g = way g.strict (entails w g.ask)
+abbrev pub fares : Way → StoreMap → NamedGuard → Bool
+fares way w g = way g.negative (named_entails w g.ask)
 
 -- the guard is reached and fares so
-abbrev pub counts : Way → StoreMap → Occurrence Guard → Bool
-counts way w o = reaches w o && fares way w o.guard
+abbrev pub counts : Way → StoreMap → Occurrence NamedGuard → Bool
+counts way w o = reaches_named w o && fares way w o.guard
 
 module _ (p : CoreProgram) (w : StoreMap) where
   -- the way is that of the test
@@ -97,7 +97,7 @@ module _ (p : CoreProgram) (w : StoreMap) where
         → length (filter (λ (g : NetGuard). counts way w (named_occurrence net g)) net.guards) ≡ reached_of test p rs t w
     net-counts way test same =
         sym (passed-map (named_occurrence net) (counts way w) net.guards)
-        ∙ ap (λ (os : List (Occurrence Guard)). length (filter (counts way w) os)) is.guards
+        ∙ ap (λ (os : List (Occurrence NamedGuard)). length (filter (counts way w) os)) is.guards
         ∙ passed-map (occurrence_named p) (counts way w) (occurrences p rs t)
         ∙ passed-agree (λ (o : Occurrence core.Guard). counts way w (occurrence_named p o)) (λ o. reports.reaches p w o && test p w o.guard) (occurrences p rs t)
         (Each-map (OccurrenceFits p) (λ (o : Occurrence core.Guard). counts way w (occurrence_named p o) ≡ (reports.reaches p w o && test p w o.guard)) (counts-named way test same) (occurrences p rs t)

@@ -16,10 +16,10 @@ use Rattle.agent_core.proofs.Bools.{both, first_of_both, second_of_both}
 use Rattle.agent_core.proofs.Told.{BelowAt, Tells, told-Tells, told-at}
 use Rattle.instant_net.specs.declared.parts.Atom.{Atom}
 use Rattle.instant_net.specs.declared.parts.NetCell.{NetCell}
-use Rattle.instant_net.specs.NamedLeaves.{Named, holds, entails, tell_named}
-use Rattle.instant_net.specs.Nets.{Flat, named, named_at, AtomFits}
+use Rattle.instant_net.specs.NamedLeaves.{Named, named_holds, named_entails, tell_named}
+use Rattle.instant_net.specs.Nets.{Flat, named_atoms, named_at, AtomFits}
 use Rattle.instant_net.specs.Opened.{IsCellOf, IsNet}
-use Rattle.instant_net.specs.Outputs.{IsStoreOf, Below}
+use Rattle.instant_net.specs.Outputs.{IsStoreOf, IsNetStoreBelow}
 use Rattle.instant_net.proofs.Lists.{same-elements}
 use Rattle.instant_net.proofs.NetOutputs as outputs
 use Rattle.instant_net.proofs.StoreLookups.{same_or_not}
@@ -38,39 +38,39 @@ pub record NamedFits (cells : List NetCell) (x : Named) : Type 0 where
 -- what a store is after a token of a named cell is after_tell
 record TellsOne (cells : List NetCell) (u : StoreMap) (n : CellName) (x : Cell) (t : Token) (after : StoreMap) : Type 0 where
   store : IsStoreOf cells after
-  above : Below cells u after
+  above : IsNetStoreBelow cells u after
   entails : IsTrue (store_entails after n x t)
   least : (y : StoreMap) → IsStoreOf cells y → (d : NetCell) → Contains cells d → BelowCell u y d → (d.name ≡ n → IsTrue (store_entails y n x t)) → BelowCell after y d
 
 -- and after these are after_tell
 pub record TellsAll (cells : List NetCell) (u : StoreMap) (xs : List Named) (after : StoreMap) : Type 0 where
   pub store : IsStoreOf cells after
-  pub above : Below cells u after
-  pub entails : IsTrue (entails after xs)
-  pub least : (y : StoreMap) → IsStoreOf cells y → (d : NetCell) → Contains cells d → BelowCell u y d → Each (λ x. d.name ≡ x.name → IsTrue (holds y x)) xs → BelowCell after y d
+  pub above : IsNetStoreBelow cells u after
+  pub entails : IsTrue (named_entails after xs)
+  pub least : (y : StoreMap) → IsStoreOf cells y → (d : NetCell) → Contains cells d → BelowCell u y d → Each (λ x. d.name ≡ x.name → IsTrue (named_holds y x)) xs → BelowCell after y d
 
 -- a store that is above at the cell of the token entails it too
-pub holds-up : (cells : List NetCell) (u w : StoreMap) (x : Named) (f : NamedFits cells x) → BelowCell u w f.cell → IsTrue (holds u x) → IsTrue (holds w x)
-holds-up cells u w x f below = subst (λ (y : Named). IsTrue (holds u y) → IsTrue (holds w y)) f.same (below x.token f.fits)
+pub holds-up : (cells : List NetCell) (u w : StoreMap) (x : Named) (f : NamedFits cells x) → BelowCell u w f.cell → IsTrue (named_holds u x) → IsTrue (named_holds w x)
+holds-up cells u w x f below = subst (λ (y : Named). IsTrue (named_holds u y) → IsTrue (named_holds w y)) f.same (below x.token f.fits)
 
-pub entails-up : (u w : StoreMap) (xs : List Named) → Each (λ x. IsTrue (holds u x) → IsTrue (holds w x)) xs → IsTrue (entails u xs) → IsTrue (entails w xs)
+pub entails-up : (u w : StoreMap) (xs : List Named) → Each (λ x. IsTrue (named_holds u x) → IsTrue (named_holds w x)) xs → IsTrue (named_entails u xs) → IsTrue (named_entails w xs)
 entails-up u w [] f h = refl
-entails-up u w (x ∷ xs) f h = both _ _ (f.0 (first_of_both (holds u x) (entails u xs) h)) (entails-up u w xs f.1 (second_of_both (holds u x) (entails u xs) h))
+entails-up u w (x ∷ xs) f h = both _ _ (f.0 (first_of_both (named_holds u x) (named_entails u xs) h)) (entails-up u w xs f.1 (second_of_both (named_holds u x) (named_entails u xs) h))
 
-pub entails-above : (cells : List NetCell) (u w : StoreMap) (xs : List Named) → Each (NamedFits cells) xs → Below cells u w → IsTrue (entails u xs) → IsTrue (entails w xs)
+pub entails-above : (cells : List NetCell) (u w : StoreMap) (xs : List Named) → Each (NamedFits cells) xs → IsNetStoreBelow cells u w → IsTrue (named_entails u xs) → IsTrue (named_entails w xs)
 entails-above cells u w xs fits below = entails-up u w xs (go xs fits)
   where
-    go : (xs : List Named) → Each (NamedFits cells) xs → Each (λ x. IsTrue (holds u x) → IsTrue (holds w x)) xs
+    go : (xs : List Named) → Each (NamedFits cells) xs → Each (λ x. IsTrue (named_holds u x) → IsTrue (named_holds w x)) xs
     go [] f = tt
     go (x ∷ xs) f = (holds-up cells u w x f.0 (λ t fits. below f.0.cell t f.0.there fits), go xs f.1)
 
 -- what holds of the token of each atom's cell holds of each named token
 pub named-each : (cells : List NetCell) (Q : Named → Type 0) (atoms : List Atom)
-    → Each (λ a. (c : NetCell) × (slice_get cells a.cell ≡ Some c) × Q (record { name = c.name; cell = c.cell; token = a.token })) atoms → Each Q (named cells atoms)
+    → Each (λ a. (c : NetCell) × (slice_get cells a.cell ≡ Some c) × Q (record { name = c.name; cell = c.cell; token = a.token })) atoms → Each Q (named_atoms cells atoms)
 named-each cells Q [] h = tt
-named-each cells Q (a ∷ atoms) h = subst (λ (o : Option NetCell). Each Q (named_at o a ++ named cells atoms)) (sym h.0.1) (h.0.2, named-each cells Q atoms h.1)
+named-each cells Q (a ∷ atoms) h = subst (λ (o : Option NetCell). Each Q (named_at o a ++ named_atoms cells atoms)) (sym h.0.1) (h.0.2, named-each cells Q atoms h.1)
 
-pub named-fits : (cells : List NetCell) (atoms : List Atom) → Each (AtomFits cells) atoms → Each (NamedFits cells) (named cells atoms)
+pub named-fits : (cells : List NetCell) (atoms : List Atom) → Each (AtomFits cells) atoms → Each (NamedFits cells) (named_atoms cells atoms)
 named-fits cells atoms h = named-each cells (NamedFits cells) atoms (go atoms h)
   where
     go : (atoms : List Atom) → Each (AtomFits cells) atoms → Each (λ a. (c : NetCell) × (slice_get cells a.cell ≡ Some c) × NamedFits cells (record { name = c.name; cell = c.cell; token = a.token })) atoms

@@ -2,9 +2,9 @@
 ghost use Rattle.std.specs.Prelude.{◌≡◌, ◌+◌, ◌≤◌, false, cond, All};
 ghost use Rattle.token_system.specs.Stores.{StoreMap};
 ghost use Rattle.instant_net.specs.Opened.{IsNet};
-ghost use Rattle.instant_net.specs.Outputs.{IsOutput, IsStratified};
+ghost use Rattle.instant_net.specs.Outputs.{IsNetOutput, IsStratified};
 ghost use Rattle.instant_net.specs.Words.{store_in, AreWords};
-ghost use Rattle.settle.specs.Ways.{untold, Advances, IsOnWay};
+ghost use Rattle.settle.specs.Ways.{untold, Advances, IsOnNetWay};
 ghost use Rattle.settle.specs.Ways as ways;
 
 use crate::leaves::is_due;
@@ -16,9 +16,9 @@ use instant_net::{Net, Words, tell};
 pub fn settle_stratum(net: &Net, words: &mut Words, stratum: u32)
     requires words { AreWords net.now.cells words.old }
     ensures words { AreWords net.now.cells words.new }
-    ensures settled { (input output : StoreMap) → IsStratified net.now → IsOutput net.now input output
-        → IsOnWay net.now input output stratum (store_in net.now.cells words.old)
-        → IsOnWay net.now input output (stratum + 1) (store_in net.now.cells words.new) }
+    ensures settled { (input output : StoreMap) → IsStratified net.now → IsNetOutput net.now input output
+        → IsOnNetWay net.now input output stratum (store_in net.now.cells words.old)
+        → IsOnNetWay net.now input output (stratum + 1) (store_in net.now.cells words.new) }
 {
     let mut told = true;
     while told {
@@ -31,8 +31,8 @@ pub fn settle_stratum(net: &Net, words: &mut Words, stratum: u32)
 pub fn settle(net: &Net, words: &mut Words, from: u32)
     requires words { AreWords net.now.cells words.old }
     ensures words { AreWords net.now.cells words.new }
-    ensures settled { (input output : StoreMap) → IsStratified net.now → IsOutput net.now input output
-        → IsOnWay net.now input output from (store_in net.now.cells words.old)
+    ensures settled { (input output : StoreMap) → IsStratified net.now → IsNetOutput net.now input output
+        → IsOnNetWay net.now input output from (store_in net.now.cells words.old)
         → store_in net.now.cells words.new ≡ output }
 {
     for stratum in from..net.strata() {
@@ -49,7 +49,7 @@ fn tell_due(net: &Net, words: &mut Words, stratum: u32) -> bool
     ensures way { Advances net.now stratum stratum words.old words.new }
     ensures fewer { untold net.now (store_in net.now.cells words.new) net.now.leaves + cond result 1 0
         ≤ untold net.now (store_in net.now.cells words.old) net.now.leaves }
-    ensures at_rest { result ≡ false → All (λ l. ways.is_due net.now stratum (store_in net.now.cells words.new) l ≡ false) net.now.leaves }
+    ensures at_rest { result ≡ false → All (λ l. ways.is_leaf_due net.now stratum (store_in net.now.cells words.new) l ≡ false) net.now.leaves }
 {
     let mut told = false;
     for leaf in 0..net.leaves() {

@@ -12,9 +12,9 @@ use Rattle.agent_core.specs.Leaves.{leaves, ran}
 use Rattle.agent_core.specs.Outputs.{IsOutput}
 use Rattle.instant_net.specs.Nets.{Flat}
 use Rattle.instant_net.specs.Opened.{IsNetOf}
-use Rattle.residuals.specs.RootLists.{listed, goes}
+use Rattle.residuals.specs.RootLists.{listed_roots, goes}
 use Rattle.agent_laws.specs.NextRoots.{stays}
-use Rattle.run_book.specs.Books.{BookView, Keeps, IsClosed}
+use Rattle.run_book.specs.Books.{BookView, KeepsRun, HasClosedInstant}
 use Rattle.command_words.specs.declared.settings.Limits.{Limits}
 use Rattle.tdcc_tool.specs.Answers.{KeepsLimits}
 use Rattle.trace_text.specs.Inputs.{GivesInput}
@@ -26,7 +26,7 @@ use Rattle.tdcc_tool.specs.Steps.{count_now, Ends, Follows, Goes, IsNetAfter}
 use Rattle.tdcc_tool.specs.Writings.{ran_after, spent, line_of, instant_lines}
 use Rattle.tdcc_tool.proofs.Writings.{spent-push, instant_lines-push}
 
-module _ (b : BookView) (full : List StoreMap) (keeps : Keeps b full) where
+module _ (b : BookView) (full : List StoreMap) (keeps : KeepsRun b full) where
   -- the leaves that the book counts are those of the instant after its run
   pub count-of-run : count_now b ≡ leaf_count b.program full
   count-of-run =
@@ -34,19 +34,19 @@ module _ (b : BookView) (full : List StoreMap) (keeps : Keeps b full) where
       ∙ ap (λ (n : ℕ). length (leaves b.program (roots b.program full) n)) (sym keeps.run.whole)
 
   -- and what runs of its roots runs after that run
-  pub ran-of-run : (v : StoreMap) → ran b.program (listed b.roots) (length b.ins) v ≡ ran_after b.program full v
+  pub ran-of-run : (v : StoreMap) → ran b.program (listed_roots b.roots) (length b.ins) v ≡ ran_after b.program full v
   ran-of-run v =
       ap (λ (rs : List Closure). ran b.program rs (length b.ins) v) keeps.roots.all
       ∙ ap (λ (n : ℕ). ran b.program (roots b.program full) n v) (sym keeps.run.whole)
 
   -- a net of its roots is one of the instant after its run
-  pub net-of-run : (net : Flat) → IsNetOf b.program b.levels (listed b.roots) (length b.ins) net → IsNetAfter b full net
+  pub net-of-run : (net : Flat) → IsNetOf b.program b.levels (listed_roots b.roots) (length b.ins) net → IsNetAfter b full net
   net-of-run net of =
       subst (λ (n : ℕ). IsNetOf b.program b.levels (roots b.program full) n net) (sym keeps.run.whole)
       (subst (λ (rs : List Closure). IsNetOf b.program b.levels rs (length b.ins) net) keeps.roots.all of)
 
 -- the book's next roots are as many as those of the program
-pub roots-after : (b : BookView) (full : List StoreMap) → Keeps b full → length b.roots.once + length b.roots.stay ≡ length (roots b.program full)
+pub roots-after : (b : BookView) (full : List StoreMap) → KeepsRun b full → length b.roots.once + length b.roots.stay ≡ length (roots b.program full)
 roots-after b full kept =
     let once = ap length kept.roots.once in
     let stay = ap length kept.roots.stay in
@@ -68,7 +68,7 @@ keeps-more p limits full v within fits cheap = record {
 }
 
 module _ (c : Course) (input : StoreMap) (room : length c.book.ins < 65536) where
-  is-due : (line : List ℕ) → GivesInput c.book.program line input → (full : List StoreMap) → Keeps c.book full → IsDue c.book.program (length full) line input
+  is-due : (line : List ℕ) → GivesInput c.book.program line input → (full : List StoreMap) → KeepsRun c.book full → IsDue c.book.program (length full) line input
   is-due line given full keeps = record { given = given; few = let long = keeps.run.whole in omega arith }
 
   -- too many leaves end the run
@@ -79,12 +79,12 @@ module _ (c : Course) (input : StoreMap) (room : length c.book.ins < 65536) wher
     says = tt;
   }
 
-  module _ (v : StoreMap) (fits : count_now c.book ≤ c.limits.net) (total : ℕ) (counted : total ≡ c.spent + ran c.book.program (listed c.book.roots) (length c.book.ins) v) where
+  module _ (v : StoreMap) (fits : count_now c.book ≤ c.limits.net) (total : ℕ) (counted : total ≡ c.spent + ran c.book.program (listed_roots c.book.roots) (length c.book.ins) v) where
     total-spent : (full : List StoreMap) → Follows c full → total ≡ spent c.book.program full + ran_after c.book.program full v
     total-spent full follows = let before = follows.spent in let here = ran-of-run c.book full follows.keeps v in omega arith
 
     -- so do too many agents
-    pub over-fuel : ((full : List StoreMap) → Keeps c.book full → IsOutput c.book.program full input v) → c.limits.fuel < total → (line : List ℕ) → GivesInput c.book.program line input → Ends c c line (ends.Fuel total)
+    pub over-fuel : ((full : List StoreMap) → KeepsRun c.book full → IsOutput c.book.program full input v) → c.limits.fuel < total → (line : List ℕ) → GivesInput c.book.program line input → Ends c c line (ends.Fuel total)
     over-fuel output over line given = record {
       at = λ short full follows. (
         input,
@@ -103,9 +103,9 @@ module _ (c : Course) (input : StoreMap) (room : length c.book.ins < 65536) wher
 
     -- and otherwise the run goes on
     pub goes-on : (after : Course) (net : Flat) → after.writing ≡ c.writing → after.limits ≡ c.limits → after.spent ≡ total → total ≤ c.limits.fuel
-        → IsClosed c.book after.book input v → ((full : List StoreMap) → Keeps c.book full → Keeps after.book (full ++ v ∷ []))
-        → IsNetOf c.book.program c.book.levels (listed c.book.roots) (length c.book.ins) net
-        → ((past : List StoreMap) → Keeps after.book (past ++ v ∷ []) → IsNetAfter after.book past net → after.lines.items ≡ c.lines.items ++ line_of after.writing after.book.program past v)
+        → HasClosedInstant c.book after.book input v → ((full : List StoreMap) → KeepsRun c.book full → KeepsRun after.book (full ++ v ∷ []))
+        → IsNetOf c.book.program c.book.levels (listed_roots c.book.roots) (length c.book.ins) net
+        → ((past : List StoreMap) → KeepsRun after.book (past ++ v ∷ []) → IsNetAfter after.book past net → after.lines.items ≡ c.lines.items ++ line_of after.writing after.book.program past v)
         → (line : List ℕ) → GivesInput c.book.program line input → Goes c after line
     goes-on after net writing limits is-total cheap closed keeps of lines line given = record {
       few = room;

@@ -5,7 +5,7 @@ use Rattle.tdcc_base.specs.declared.status.Status.{Status}
 use Rattle.tdcc_base.specs.declared.status.Status.TheVariants as statuses
 use Rattle.agent_core.specs.Programs.{CoreProgram}
 use Rattle.agent_core.specs.Strata.{Stratifies, IsLeastTable}
-use Rattle.instant_net.specs.Opened.{strata_of}
+use Rattle.agent_core.specs.StrataCounts.{strata_of}
 use Rattle.tdcc_tool.specs.Messages.{cell_name}
 
 -- how many cells, nodes and strata there are

@@ -5,8 +5,8 @@ use Rattle.agent_core.specs.Closures.{roots}
 use Rattle.agent_core.specs.Leaves.{leaves}
 use Rattle.instant_net.specs.Nets.{Flat}
 use Rattle.instant_net.specs.Opened.{IsNetOf}
-use Rattle.residuals.specs.RootLists.{listed}
-use Rattle.run_book.specs.Books.{BookView, Keeps, IsClosed}
+use Rattle.residuals.specs.RootLists.{listed_roots}
+use Rattle.run_book.specs.Books.{BookView, KeepsRun, HasClosedInstant}
 use Rattle.trace_text.specs.declared.fault.LineFault.TheVariants.{Memory}
 use Rattle.trace_text.specs.Inputs.{GivesInput}
 use Rattle.tdcc_tool.specs.declared.course.Course.{Course}
@@ -18,7 +18,7 @@ use Rattle.tdcc_tool.specs.Writings.{spent, instant_lines}
 
 -- how many leaves the instant has that the book is at
 abbrev pub count_now : BookView → ℕ
-count_now b = length (leaves b.program (listed b.roots) (length b.ins))
+count_now b = length (leaves b.program (listed_roots b.roots) (length b.ins))
 
 -- the net is that of the instant after these outputs of the book's program
 abbrev pub IsNetAfter : BookView → List StoreMap → Flat → Type 0
@@ -26,7 +26,7 @@ IsNetAfter b past net = IsNetOf b.program b.levels (roots b.program past) (lengt
 
 -- the course is that of a run with these outputs: the book keeps it, what was written and spent is what is due, and no limit was passed
 pub record Follows (c : Course) (full : List StoreMap) : Type 0 where
-  pub keeps : Keeps c.book full
+  pub keeps : KeepsRun c.book full
   pub spent : c.spent ≡ spent c.book.program full
   pub lines : c.lines.items ≡ instant_lines c.writing c.book.program full
   pub within : KeepsLimits c.book.program c.limits full
@@ -34,7 +34,7 @@ pub record Follows (c : Course) (full : List StoreMap) : Type 0 where
 -- an instant is closed on this input, and the course goes on with its output
 pub record Closes (before after : Course) (input : StoreMap) : Type 0 where
   pub output : StoreMap
-  pub closed : IsClosed before.book after.book input output
+  pub closed : HasClosedInstant before.book after.book input output
   pub writing : after.writing ≡ before.writing
   pub limits : after.limits ≡ before.limits
   pub follows : (full : List StoreMap) → Follows before full → Follows after (full ++ output ∷ [])

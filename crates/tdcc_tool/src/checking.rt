@@ -1,6 +1,5 @@
 //! What `check` answers.
 ghost use Rattle.std.specs.Prelude.{◌≡◌, ◌⊎◌, IfOk, length};
-ghost use Rattle.instant_net.specs.Opened as nets;
 ghost use Rattle.tdcc_tool.specs.Answers.{CaseAnswer};
 ghost use Rattle.tdcc_tool.specs.Checks as checks;
 ghost use Rattle.tdcc_tool.specs.Checks.{CheckAnswer};
@@ -14,17 +13,6 @@ use strata::{StrataFault, strata};
 use tdcc_base::Status;
 use token_system::Memory;
 
-/// How many strata the levels are: the greatest of them plus one, or 0 where there are none.
-fn strata_of(levels: &Levels) -> u32
-    ensures { result ≡ nets.strata_of levels.now }
-{
-    let mut strata = 0;
-    for level in levels.list() {
-        strata = strata.max(*level + 1);
-    }
-    strata
-}
-
 /// The line of the sizes, and then a line for each cell with its number.
 fn check_text(alloc: Global, program: &Program, levels: &Levels) -> Result<Vec<u8>, Memory>
     requires { length levels.now ≡ length program.now.cells }
@@ -34,7 +22,7 @@ fn check_text(alloc: Global, program: &Program, levels: &Levels) -> Result<Vec<u
     let mut text = Vec::new(alloc);
     write_count(b"accepted: ", cells as u64, &mut text)?;
     write_count(b" cells, ", program.nodes().len() as u64, &mut text)?;
-    write_count(b" nodes, ", u64::from(strata_of(levels)), &mut text)?;
+    write_count(b" nodes, ", u64::from(levels.strata()), &mut text)?;
     text.extend_from_slice(b" strata\n")?;
     for cell in 0..cells {
         text.extend_from_slice(name_of(program, cell as u32))?;

@@ -4,10 +4,10 @@ ghost use Rattle.token_system.specs.Stores.{StoreMap};
 ghost use Rattle.agent_core.specs.Outputs as program;
 ghost use Rattle.agent_core.specs.Stores.{IsInput};
 ghost use Rattle.instant_net.specs.Opened.{IsNetOf};
-ghost use Rattle.instant_net.specs.Outputs.{IsOutput};
+ghost use Rattle.instant_net.specs.Outputs.{IsNetOutput};
 ghost use Rattle.instant_net.specs.Words.{store_in, AreWords};
-ghost use Rattle.residuals.specs.RootLists.{listed};
-ghost use Rattle.run_book.specs.Books.{Keeps};
+ghost use Rattle.residuals.specs.RootLists.{listed_roots};
+ghost use Rattle.run_book.specs.Books.{KeepsRun};
 ghost use Rattle.tdcc_tool.specs.Steps.{count_now};
 
 use agent_laws::{by_roots_law, one_output_law};
@@ -29,10 +29,10 @@ pub fn output_of(
 ) -> Result<(Net, Words), NetFault>
     requires input { IsInput book.now.program input.now }
     requires limit { limit ≤ 65536 }
-    ensures net { IfOk result (λ found. IsNetOf book.now.program book.now.levels (listed book.now.roots) (length book.now.ins) found.0) }
+    ensures net { IfOk result (λ found. IsNetOf book.now.program book.now.levels (listed_roots book.now.roots) (length book.now.ins) found.0) }
     ensures words { IfOk result (λ found. AreWords found.0.cells found.1) }
-    ensures output { IfOk result (λ found. IsOutput found.0 input.now (store_in found.0.cells found.1)) }
-    ensures run { IfOk result (λ found. (full : List StoreMap) → Keeps book.now full → program.IsOutput book.now.program full input.now (store_in found.0.cells found.1)) }
+    ensures output { IfOk result (λ found. IsNetOutput found.0 input.now (store_in found.0.cells found.1)) }
+    ensures run { IfOk result (λ found. (full : List StoreMap) → KeepsRun book.now full → program.IsOutput book.now.program full input.now (store_in found.0.cells found.1)) }
     ensures small { IfOk result (λ _. count_now book.now ≤ limit) }
     ensures counted { (leaves : ℕ) → result ≡ Err (NetFault.NetFull leaves) → leaves ≡ count_now book.now }
     ensures full { (leaves : ℕ) → result ≡ Err (NetFault.NetFull leaves) → limit < leaves }

@@ -2,7 +2,7 @@
 ghost use Rattle.std.specs.Prelude.{◌≡◌, ◌∷◌, [], ◌++◌, List, OnOk, decimal};
 ghost use Rattle.token_system.specs.Stores.{StoreMap};
 ghost use Rattle.instant_net.specs.Words.{store_in, AreWords};
-ghost use Rattle.run_book.specs.Books.{Keeps};
+ghost use Rattle.run_book.specs.Books.{KeepsRun};
 ghost use Rattle.run_report.specs.declared.counts.Report as Report;
 ghost use Rattle.tdcc_tool.specs.Steps.{IsNetAfter};
 ghost use Rattle.tdcc_tool.specs.Writings.{line_of, report_text};
@@ -57,7 +57,7 @@ pub fn write_line(
     into: &mut Vec<u8>,
 ) -> Result<(), Memory>
     requires { AreWords net.now.cells words.now }
-    ensures { OnOk result ((past : List StoreMap) → Keeps book.now (past ++ store_in net.now.cells words.now ∷ []) → IsNetAfter book.now past net.now
+    ensures { OnOk result ((past : List StoreMap) → KeepsRun book.now (past ++ store_in net.now.cells words.now ∷ []) → IsNetAfter book.now past net.now
         → into.new.items ≡ into.old.items ++ line_of writing book.now.program past (store_in net.now.cells words.now)) }
 {
     match writing {

@@ -58,17 +58,17 @@ impl Net {
         ensures { result ≡ told_of self.now.cells atom }
     {
         let cell = &self.cells[atom.cell as usize];
-        told_as(cell.cell.kind, cell.first, atom.token)
+        told_as(cell.cell, cell.first, atom.token)
     }
 }
 
-// Where and how a token is told of a cell of this kind, whose first word this is.
-fn told_as(kind: Kind, first: u32, token: Token) -> Told
-    requires fits { IsTrue (fits_kind kind token) }
+// Where and how a token is told of the cell, whose first word this is.
+fn told_as(cell: Cell, first: u32, token: Token) -> Told
+    requires fits { IsTrue (fits_kind cell.kind token) }
     requires small { first + 1 < 4294967296 }
-    ensures { result ≡ told_as_of kind first token }
+    ensures { result ≡ told_as_of cell first token }
 {
-    let (word, how, bits) = match (kind, token) {
+    let (word, how, bits) = match (cell.kind, token) {
         (Kind::Signal, Token::On) => (first, How::Or, 1),
         (Kind::Signal, Token::Off) => (first, How::Or, 2),
         (Kind::Signal, Token::Clash) => (first, How::Or, 3),

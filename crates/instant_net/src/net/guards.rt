@@ -1,7 +1,7 @@
 //! What is read off the guards of a net.
 ghost use Rattle.std.specs.Prelude.{◌≡◌, ◌<◌, length, slice_get};
 ghost use Rattle.instant_net.specs.Opened.{IsNet};
-ghost use Rattle.instant_net.specs.Readers.{above_of, ask_of, first_of_guard, greatest_stratum, is_else_of, past_of_guard};
+ghost use Rattle.instant_net.specs.Readers.{above_of, guard_ask_of, first_of_guard, greatest_stratum, is_else_of, past_of_guard};
 
 use crate::net::Net;
 use crate::parts::Atom;
@@ -12,13 +12,13 @@ impl Net {
         requires { guard < length self.now.guards }
         ensures { result ≡ is_else_of (slice_get self.now.guards guard) }
     {
-        self.guards[guard as usize].strict
+        self.guards[guard as usize].negative
     }
 
     /// The tokens that the guard asks for, in order.
     pub fn ask(&self, guard: u32) -> &[Atom]
         requires { guard < length self.now.guards }
-        ensures ask { result.now ≡ ask_of (slice_get self.now.guards guard) }
+        ensures ask { result.now ≡ guard_ask_of (slice_get self.now.guards guard) }
         ensures net { IsNet self.now }
     {
         self.guards[guard as usize].ask.list()
@@ -27,7 +27,7 @@ impl Net {
     /// The greatest stratum of the cells that the guard asks for, or 0 where it asks for none.
     pub fn guard_stratum(&self, guard: u32) -> u32
         requires { guard < length self.now.guards }
-        ensures { result ≡ greatest_stratum self.now.cells (ask_of (slice_get self.now.guards guard)) }
+        ensures { result ≡ greatest_stratum self.now.cells (guard_ask_of (slice_get self.now.guards guard)) }
     {
         let mut greatest = 0;
         for atom in self.ask(guard) {

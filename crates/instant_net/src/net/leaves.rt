@@ -1,7 +1,7 @@
 //! What is read off the leaves of a net.
 ghost use Rattle.std.specs.Prelude.{◌≡◌, ◌<◌, MatchOption, None, Some, length, slice_get};
 ghost use Rattle.instant_net.specs.Opened.{IsNet};
-ghost use Rattle.instant_net.specs.Readers.{is_hence_of, is_tell_of, last_of, least_stratum, lesser as lesser_of, starts_of, tells_of};
+ghost use Rattle.instant_net.specs.Readers.{is_hence_of, is_tell_of, last_of, least_stratum, lesser as lesser_of, starts_of, leaf_tells_of};
 
 use crate::net::Net;
 use crate::parts::{Atom, LeafKind};
@@ -22,7 +22,7 @@ impl Net {
     /// The least stratum of the cells that the leaf tells, where it tells any.
     pub fn level(&self, leaf: u32) -> Option<u32>
         requires { leaf < length self.now.leaves }
-        ensures { result ≡ least_stratum self.now.cells (tells_of (slice_get self.now.leaves leaf)) }
+        ensures { result ≡ least_stratum self.now.cells (leaf_tells_of (slice_get self.now.leaves leaf)) }
     {
         let mut least = None;
         for atom in self.tells(leaf) {
@@ -34,7 +34,7 @@ impl Net {
     /// The tokens that the leaf tells, in order; none where it is no tell.
     pub fn tells(&self, leaf: u32) -> &[Atom]
         requires { leaf < length self.now.leaves }
-        ensures tells { result.now ≡ tells_of (slice_get self.now.leaves leaf) }
+        ensures tells { result.now ≡ leaf_tells_of (slice_get self.now.leaves leaf) }
         ensures net { IsNet self.now }
     {
         match &self.leaves[leaf as usize].kind {

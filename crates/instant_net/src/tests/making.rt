@@ -61,6 +61,25 @@ fn new_in_new(alloc: Global) -> Result<Program, Fail>
     over_cells(alloc, &[SIGNAL, SIGNAL], 0, nodes)
 }
 
+/// `signal a, b; if a then b || if a then b`.
+fn one_guard_twice(alloc: Global) -> Result<Program, Fail>
+    ensures { IfOk result IsWellFormed }
+{
+    let mut nodes = Vec::new(alloc);
+    nodes.push(Node::Par { left: 1, right: 3 })?;
+    nodes.push(Node::Then {
+        ask: on(alloc, 0)?,
+        body: 2,
+    })?;
+    nodes.push(Node::Tell(on(alloc, 1)?))?;
+    nodes.push(Node::Then {
+        ask: on(alloc, 0)?,
+        body: 4,
+    })?;
+    nodes.push(Node::Tell(on(alloc, 1)?))?;
+    over_cells(alloc, &[SIGNAL, SIGNAL], 2, nodes)
+}
+
 /// Whether these atoms are that the one cell is on.
 fn is_on(atoms: &Atoms, cell: u32) -> bool {
     atoms.list().len() == 1
@@ -74,13 +93,13 @@ fn is_on(atoms: &Atoms, cell: u32) -> bool {
 /// Whether this is a guard on the one cell being on.
 fn is_guard(
     guard: &NetGuard,
-    strict: bool,
+    negative: bool,
     cell: u32,
     above: Option<u32>,
     first: u32,
     past: u32,
 ) -> bool {
-    guard.strict == strict
+    guard.negative == negative
         && is_on(&guard.ask, cell)
         && guard.above == above
         && guard.first == first
@@ -169,5 +188,32 @@ fn guards_name_the_one_above_and_leaves_the_last_one(rt: HostRuntime) -> Result<
     assert!(rt; is_guard(&parts.guards[2], false, 2, Some(1), 1, 2));
     assert!(rt; is_tell(&parts.leaves[0], 2, 1));
     assert!(rt; is_tell(&parts.leaves[1], 1, 2));
+    Ok(())
+}
+
+#[test]
+fn leaves_below_equal_guards_name_each_their_own(rt: HostRuntime) -> Result<(), Fail> {
+    let program = one_guard_twice(rt.alloc())?;
+    let levels = rising_levels(rt.alloc(), &program)?;
+    let roots = first_roots(rt.alloc(), &program)?;
+    let Ok(net) = open_net(rt.alloc(), &program, &levels, &roots, 7, 2) else {
+        return Err(Fail::from("no net"));
+    };
+    let mut last = Vec::new(rt.alloc());
+    for leaf in 0..net.leaves() {
+        last.push(net.last_guard(leaf))?;
+    }
+    let mut links = Vec::new(rt.alloc());
+    for guard in 0..net.guards() {
+        links.push((
+            net.above(guard),
+            net.first_under(guard),
+            net.past_under(guard),
+        ))?;
+    }
+    assert_eq!(rt; last.len(), 2);
+    assert!(rt; last[0] == Some(0) && last[1] == Some(1));
+    assert_eq!(rt; links.len(), 2);
+    assert!(rt; links[0] == (None, 0, 1) && links[1] == (None, 1, 2));
     Ok(())
 }

@@ -7,9 +7,9 @@ ghost use Rattle.instant_net.specs.declared.parts.NetCell.{NetCell};
 ghost use Rattle.instant_net.specs.declared.parts.NetGuard.{NetGuard};
 ghost use Rattle.instant_net.specs.declared.parts.NetLeaf.{NetLeaf};
 ghost use Rattle.instant_net.specs.NamedLeaves as named_leaves;
-ghost use Rattle.instant_net.specs.Nets.{named, named_leaf, named_occurrence, path_to, paths_from, AtomFits, IsBelow};
+ghost use Rattle.instant_net.specs.Nets.{named_atoms, named_leaf, named_occurrence, path_to, paths_from, AtomFits, IsLinkBelow};
 ghost use Rattle.instant_net.specs.Opened.{IsNet};
-ghost use Rattle.instant_net.specs.Readers.{ask_of, is_else_of};
+ghost use Rattle.instant_net.specs.Readers.{guard_ask_of, is_else_of};
 ghost use Rattle.instant_net.specs.Words.{number_value, signal_value, store_in, value_in, AreWords};
 
 use crate::net::Net;
@@ -74,7 +74,7 @@ fn number(lo: u64, hi: u64) -> Value
 pub fn holds(net: &Net, words: &Words, guard: u32) -> bool
     requires guard { guard < length net.now.guards }
     requires words { AreWords net.now.cells words.now }
-    ensures { result ≡ named_leaves.entails (store_in net.now.cells words.now) (named net.now.cells (ask_of (slice_get net.now.guards guard))) }
+    ensures { result ≡ named_leaves.named_entails (store_in net.now.cells words.now) (named_atoms net.now.cells (guard_ask_of (slice_get net.now.guards guard))) }
 {
     for atom in net.ask(guard) {
         if !has(net, words, *atom) {
@@ -84,11 +84,11 @@ pub fn holds(net: &Net, words: &Words, guard: u32) -> bool
     true
 }
 
-// Whether the words entail the token.
-fn has(net: &Net, words: &Words, atom: Atom) -> bool
+/// Whether the words entail the token.
+pub fn has(net: &Net, words: &Words, atom: Atom) -> bool
     requires fits { AtomFits net.now.cells atom }
     requires words { AreWords net.now.cells words.now }
-    ensures { result ≡ named_leaves.entails (store_in net.now.cells words.now) (named net.now.cells (atom ∷ [])) }
+    ensures { result ≡ named_leaves.named_entails (store_in net.now.cells words.now) (named_atoms net.now.cells (atom ∷ [])) }
 {
     entails(value(net, words, atom.cell), atom.token)
 }
@@ -97,7 +97,7 @@ fn has(net: &Net, words: &Words, atom: Atom) -> bool
 fn allows(net: &Net, words: &Words, guard: u32) -> bool
     requires guard { guard < length net.now.guards }
     requires words { AreWords net.now.cells words.now }
-    ensures { result ≡ named_leaves.allowed (is_else_of (slice_get net.now.guards guard)) (named_leaves.entails (store_in net.now.cells words.now) (named net.now.cells (ask_of (slice_get net.now.guards guard)))) }
+    ensures { result ≡ named_leaves.allowed (is_else_of (slice_get net.now.guards guard)) (named_leaves.named_entails (store_in net.now.cells words.now) (named_atoms net.now.cells (guard_ask_of (slice_get net.now.guards guard)))) }
 {
     let held = holds(net, words, guard);
     if net.is_else(guard) { !held } else { held }
@@ -106,9 +106,9 @@ fn allows(net: &Net, words: &Words, guard: u32) -> bool
 // Whether the words allow this guard, where there is one, and each guard above it.
 fn allow_path(net: &Net, words: &Words, last: Option<u32>) -> bool
     requires net { IsNet net.now }
-    requires there { IsBelow (length net.now.guards) last }
+    requires there { IsLinkBelow (length net.now.guards) last }
     requires words { AreWords net.now.cells words.now }
-    ensures { result ≡ list_all (named_leaves.allows (store_in net.now.cells words.now)) (path_to (paths_from net.now.cells [] net.now.guards) last) }
+    ensures { result ≡ list_all (named_leaves.allows_named (store_in net.now.cells words.now)) (path_to (paths_from net.now.cells [] net.now.guards) last) }
 {
     let mut next = last;
     while let Some(guard) = next {
@@ -124,7 +124,7 @@ fn allow_path(net: &Net, words: &Words, last: Option<u32>) -> bool
 pub fn runs(net: &Net, words: &Words, leaf: u32) -> bool
     requires leaf { leaf < length net.now.leaves }
     requires words { AreWords net.now.cells words.now }
-    ensures { (l : NetLeaf) → slice_get net.now.leaves leaf ≡ Some l → result ≡ named_leaves.runs (store_in net.now.cells words.now) (named_leaf net.now l) }
+    ensures { (l : NetLeaf) → slice_get net.now.leaves leaf ≡ Some l → result ≡ named_leaves.runs_named (store_in net.now.cells words.now) (named_leaf net.now l) }
 {
     allow_path(net, words, net.last_guard(leaf))
 }
@@ -133,7 +133,7 @@ pub fn runs(net: &Net, words: &Words, leaf: u32) -> bool
 pub fn reaches(net: &Net, words: &Words, guard: u32) -> bool
     requires guard { guard < length net.now.guards }
     requires words { AreWords net.now.cells words.now }
-    ensures { (g : NetGuard) → slice_get net.now.guards guard ≡ Some g → result ≡ named_leaves.reaches (store_in net.now.cells words.now) (named_occurrence net.now g) }
+    ensures { (g : NetGuard) → slice_get net.now.guards guard ≡ Some g → result ≡ named_leaves.reaches_named (store_in net.now.cells words.now) (named_occurrence net.now g) }
 {
     allow_path(net, words, net.above(guard))
 }

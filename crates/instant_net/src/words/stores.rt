@@ -3,7 +3,7 @@ ghost use Rattle.std.specs.Prelude.{◌≡◌, ◌≤◌, ◌++◌, IfOk, OnOk, 
 ghost use Rattle.token_system.specs.Stores.{value_at};
 ghost use Rattle.token_system.specs.Values.{IsValueOf};
 ghost use Rattle.instant_net.specs.Outputs.{IsStoreOf};
-ghost use Rattle.instant_net.specs.Words.{kind_words, store_in, store_words, AreWords};
+ghost use Rattle.instant_net.specs.Words.{cell_words, store_in, store_words, AreWords};
 
 use crate::net::{Net, shifted};
 use crate::words::{Words, value};
@@ -42,7 +42,7 @@ fn value_of(store: &Store, name: &CellName, cell: Cell) -> Value
 // Appends the words of a cell's value.
 fn push(list: &mut Vec<u64>, cell: Cell, value: Value) -> Result<(), Memory>
     requires { IsValueOf cell value }
-    ensures { OnOk result (list.new.items ≡ list.old.items ++ kind_words cell.kind cell.hi value) }
+    ensures { OnOk result (list.new.items ≡ list.old.items ++ cell_words cell value) }
 {
     match value {
         Value::Signal { on, off } => Ok(list.push(u64::from(on) + 2 * u64::from(off))?),

@@ -1,11 +1,12 @@
-use Rattle.std.proofs.Common.{None, [], List, sym, subst, arith}
+use Rattle.std.proofs.Common.{List, sym, subst, arith}
 use Rattle.instant_net.specs.declared.locals.Local.{Local}
 use Rattle.instant_net.specs.declared.parts.NetCell.{NetCell}
 use Rattle.instant_net.specs.Opened.{IsNetOf}
-use Rattle.instant_net.specs.Programs.{root_leaves, root_occurrences}
+use Rattle.instant_net.specs.Programs.{root_leaves}
 use Rattle.instant_net.specs.Collecting.{cell_names}
 use Rattle.instant_net.specs.Covering.{RootsCovered}
-use Rattle.instant_net.specs.Walks.{AreNamed, Grown}
+use Rattle.instant_net.specs.Walks.{AreNamed, AreListedFor}
+use Rattle.instant_net.proofs.Rooms.{guards-few}
 use Rattle.instant_net.proofs.NetsMade.{cells-named, net-is, net-fits}
 use Rattle.instant_net.proofs.opening.net_of.Goals as goal
 
@@ -21,15 +22,16 @@ net_parts-requires-clause-covered c =
 
 pub make-requires : goal.make-requires
 make-requires c =
-    let grown : Grown c.in_ok-cells.cells.items None [] 0 0 c.in_ok-parts.parts.guards.items c.in_ok-parts.parts.leaves.items (root_occurrences c.args.program.now c.args.roots.now c.args.t) (root_leaves c.args.program.now c.args.roots.now c.args.t) =
-    subst (λ (cells : List NetCell). Grown cells None [] 0 0 c.in_ok-parts.parts.guards.items c.in_ok-parts.parts.leaves.items (root_occurrences c.args.program.now c.args.roots.now c.args.t) (root_leaves c.args.program.now c.args.roots.now c.args.t)) c.deref-3.ensures.value c.in_ok-parts.ensures in
-    net-fits c.args.program.now c.args.levels.now c.args.roots.now c.args.t c.strata_of.result c.in_ok-cells.cells.items c.in_ok-parts.parts.guards.items c.in_ok-parts.parts.leaves.items c.in_ok-cells.ensures.cells.program c.requires.closures c.requires.levels
-    c.in_ok-cells.ensures.cells grown c.strata_of.ensures c.requires.few (let n = c.len.ensures in let m = c.in_ok-number_of.ensures.fits in omega arith)
+    let listed : AreListedFor c.args.program.now c.in_ok-cells.cells.items c.args.t c.args.roots.now c.in_ok-parts.parts.guards.items c.in_ok-parts.parts.leaves.items =
+    subst (λ (cells : List NetCell). AreListedFor c.args.program.now cells c.args.t c.args.roots.now c.in_ok-parts.parts.guards.items c.in_ok-parts.parts.leaves.items) c.deref-3.ensures.value c.in_ok-parts.ensures in
+    net-fits c.args.program.now c.args.levels.now c.args.roots.now c.args.t c.strata.result c.in_ok-cells.cells.items c.in_ok-parts.parts.guards.items c.in_ok-parts.parts.leaves.items c.in_ok-cells.ensures.cells.program c.requires.closures c.requires.levels
+    c.in_ok-cells.ensures.cells listed c.strata.ensures c.requires.few_leaves
+    (guards-few c.args.program.now c.in_ok-cells.ensures.cells.program c.args.roots.now c.in_ok-parts.parts.guards.items c.in_ok-parts.parts.leaves.items c.requires.closures c.requires.few listed.linked)
 
 pub returns : goal.returns
 returns c =
-    let grown : Grown c.in_ok-cells.cells.items None [] 0 0 c.in_ok-parts.parts.guards.items c.in_ok-parts.parts.leaves.items (root_occurrences c.args.program.now c.args.roots.now c.args.t) (root_leaves c.args.program.now c.args.roots.now c.args.t) =
-    subst (λ (cells : List NetCell). Grown cells None [] 0 0 c.in_ok-parts.parts.guards.items c.in_ok-parts.parts.leaves.items (root_occurrences c.args.program.now c.args.roots.now c.args.t) (root_leaves c.args.program.now c.args.roots.now c.args.t)) c.deref-3.ensures.value c.in_ok-parts.ensures in
+    let listed : AreListedFor c.args.program.now c.in_ok-cells.cells.items c.args.t c.args.roots.now c.in_ok-parts.parts.guards.items c.in_ok-parts.parts.leaves.items =
+    subst (λ (cells : List NetCell). AreListedFor c.args.program.now cells c.args.t c.args.roots.now c.in_ok-parts.parts.guards.items c.in_ok-parts.parts.leaves.items) c.deref-3.ensures.value c.in_ok-parts.ensures in
     subst (IsNetOf c.args.program.now c.args.levels.now c.args.roots.now c.args.t) (sym c.make.ensures)
-    (net-is c.args.program.now c.args.levels.now c.args.roots.now c.args.t c.strata_of.result c.in_ok-cells.cells.items c.in_ok-parts.parts.guards.items c.in_ok-parts.parts.leaves.items c.in_ok-cells.ensures.cells.program c.requires.closures c.requires.levels
-    c.in_ok-cells.ensures.cells grown c.strata_of.ensures)
+    (net-is c.args.program.now c.args.levels.now c.args.roots.now c.args.t c.strata.result c.in_ok-cells.cells.items c.in_ok-parts.parts.guards.items c.in_ok-parts.parts.leaves.items c.in_ok-cells.ensures.cells.program c.requires.closures c.requires.levels
+    c.in_ok-cells.ensures.cells listed c.strata.ensures)

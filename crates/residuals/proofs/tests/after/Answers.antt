@@ -5,7 +5,7 @@ use Rattle.token_system.specs.Stores.{StoreMap}
 use Rattle.instant_net.specs.Opened.{IsNetOf}
 use Rattle.instant_net.specs.Outputs.{IsStoreOf}
 use Rattle.instant_net.specs.Words.{store_in}
-use Rattle.residuals.specs.RootLists.{listed}
+use Rattle.residuals.specs.RootLists.{listed_roots}
 use Rattle.residuals.proofs.tests.after.Goals as goal
 
 pub open_words-requires : goal.open_words-requires
@@ -17,6 +17,6 @@ returns c =
     let p = c.args.program.now in
     let closed : List StoreMap = c.requires.roots.0 in
     let w : StoreMap = store_in c.in_ok-net.net.cells c.in_ok-words.words in
-    let whole : IsNetOf p c.args.levels.now (listed c.args.roots.now) (length closed) c.in_ok-net.net =
-    subst (λ (k : ℕ). IsNetOf p c.args.levels.now (listed c.args.roots.now) k c.in_ok-net.net) (sym c.requires.roots.1) c.in_ok-net.ensures in
+    let whole : IsNetOf p c.args.levels.now (listed_roots c.args.roots.now) (length closed) c.in_ok-net.net =
+    subst (λ (k : ℕ). IsNetOf p c.args.levels.now (listed_roots c.args.roots.now) k c.in_ok-net.net) (sym c.requires.roots.1) c.in_ok-net.ensures in
     (closed ++ w ∷ [], (let e = c.requires.roots.1 in omega (arith, length-append closed (w ∷ []))), c.in_ok-next_roots.ensures.follow p c.args.levels.now closed c.requires.roots.2 whole)

@@ -10,7 +10,7 @@ use Rattle.agent_laws.proofs.Started.{IsOwn, roots-closures}
 use Rattle.instant_net.specs.Opened.{IsNetOf}
 use Rattle.instant_net.specs.Outputs.{IsStoreOf}
 use Rattle.instant_net.specs.Words.{store_in}
-use Rattle.residuals.specs.RootLists.{listed}
+use Rattle.residuals.specs.RootLists.{listed_roots}
 use Rattle.run_report.proofs.tests.report_after.Goals as goal
 
 pub open_net-requires-clause-closures : goal.open_net-requires-clause-closures
@@ -28,7 +28,7 @@ returns c =
     let p = c.args.program.now in
     let closed : List StoreMap = c.requires.roots.0 in
     let w : StoreMap = store_in c.in-Ok.net.cells c.tell_each.new.words in
-    let whole : IsNetOf p c.args.levels.now (listed c.args.roots.now) (length closed) c.in-Ok.net =
-    subst (λ (k : ℕ). IsNetOf p c.args.levels.now (listed c.args.roots.now) k c.in-Ok.net) (sym c.requires.roots.1)
+    let whole : IsNetOf p c.args.levels.now (listed_roots c.args.roots.now) (length closed) c.in-Ok.net =
+    subst (λ (k : ℕ). IsNetOf p c.args.levels.now (listed_roots c.args.roots.now) k c.in-Ok.net) (sym c.requires.roots.1)
     (subst (λ (rs : List Closure). IsNetOf p c.args.levels.now rs c.args.t c.in-Ok.net) (c.deref.ensures.value ∙ c.in_ok-list.ensures.all) c.in-Ok.ensures.found) in
     (closed ++ w ∷ [], (let e = c.requires.roots.1 in omega (arith, length-append closed (w ∷ []))), c.in_ok-next.ensures.follow p c.args.levels.now closed c.requires.roots.2 whole)

@@ -15,7 +15,7 @@ loop-cell-init c =
     let p : CoreProgram = c.args.program.now in
     let cells = ap (λ (ds : List CellDecl). length ds) c.cells-cells.ensures.all in
     let nodes = ap (λ (ns : List Node). length ns) c.nodes.ensures.all in
-    let strata = c.from.ensures ∙ c.strata_of.ensures in
+    let strata = c.from.ensures ∙ c.strata.ensures in
     let one = c.in_ok-write_count.ensures ∙ ap (λ (xs : List ℕ). xs ++ codes "accepted: " ++ decimal (length c.cells-cells.result.now)) c.new-text.ensures.items ∙ ap (λ (n : ℕ). [] ++ codes "accepted: " ++ decimal n) cells in
     let two = c.in_ok-write_count-2.ensures ∙ ap (λ (xs : List ℕ). xs ++ codes " cells, " ++ decimal (length c.nodes.result.now)) one
     ∙ ap (λ (n : ℕ). [] ++ codes "accepted: " ++ decimal (length p.cells) ++ codes " cells, " ++ decimal n) nodes in

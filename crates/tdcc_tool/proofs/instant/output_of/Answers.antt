@@ -1,5 +1,5 @@
 use Rattle.std.proofs.Common.{◌≡◌, ◌≤◌, ℕ, length, ap, ◌∙◌, subst, rules}
-use Rattle.residuals.specs.RootLists.{listed}
+use Rattle.residuals.specs.RootLists.{listed_roots}
 use Rattle.instant_net.specs.declared.opening.NetFault.TheVariants.{NetFull}
 use Rattle.instant_net.specs.Programs.{root_leaves}
 use Rattle.instant_net.specs.Words.{store_in}
@@ -8,7 +8,7 @@ use Rattle.tdcc_tool.proofs.instant.output_of.Goals as goal
 
 pub open_words-requires : goal.open_words-requires
 open_words-requires c =
-    let roots : c.deref.result.now ≡ listed c.args.book.now.roots = c.deref.ensures.value ∙ c.in_ok-roots.ensures.all ∙ ap listed c.roots.ensures in
+    let roots : c.deref.result.now ≡ listed_roots c.args.book.now.roots = c.deref.ensures.value ∙ c.in_ok-roots.ensures.all ∙ ap listed_roots c.roots.ensures in
     let of = net-of-book c.args.book.now c.program.result.now c.levels.result.now c.deref.result.now c.instants.result c.in_ok-net.net c.program.ensures.program c.levels.ensures.levels roots c.instants.ensures c.in_ok-net.ensures.found in
     given_net c.args.book.now c.program.ensures.book c.args.input.now c.requires.input c.by_roots_law.ensures.closures c.one_output_law.ensures c.stratified_net_law.ensures c.net_outputs_law.ensures c.in_ok-net.net of
 
@@ -16,7 +16,7 @@ pub returns : goal.returns
 returns c =
     let b = c.args.book.now in
     let net = c.in_ok-net.net in
-    let roots : c.deref.result.now ≡ listed b.roots = c.deref.ensures.value ∙ c.in_ok-roots.ensures.all ∙ ap listed c.roots.ensures in
+    let roots : c.deref.result.now ≡ listed_roots b.roots = c.deref.ensures.value ∙ c.in_ok-roots.ensures.all ∙ ap listed_roots c.roots.ensures in
     let of = net-of-book b c.program.result.now c.levels.result.now c.deref.result.now c.instants.result net c.program.ensures.program c.levels.ensures.levels roots c.instants.ensures c.in_ok-net.ensures.found in
     let counted : ℕ = length (root_leaves c.program.result.now c.deref.result.now c.instants.result) in
     let few = few-leaves c.open_net.result net (NetFull counted) counted c.args.limit c.in_ok-net.was c.open_net.ensures.full in

@@ -25,4 +25,4 @@ told_as-requires-clause-small c =
 pub returns : goal.returns
 returns c =
     let found = index_found c.args.self.now.cells c.self.inside.cells.items c.args.atom.cell c.requires.0 c.index-cell.result.now (ap (λ n. n.cells) c.self.view_is) c.requires.1 c.index-cell.ensures in
-    c.told_as.ensures ∙ ap (λ (x : NetCell). told_as x.cell.kind x.first c.args.atom.token) found ∙ sym (ap (λ o. atom_told o c.args.atom.token) c.requires.1)
+    c.told_as.ensures ∙ ap (λ (x : NetCell). told_as x.cell x.first c.args.atom.token) found ∙ sym (ap (λ o. atom_told o c.args.atom.token) c.requires.1)

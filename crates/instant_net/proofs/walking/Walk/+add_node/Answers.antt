@@ -10,6 +10,7 @@ use Rattle.instant_net.specs.Walks.{IsEnded, Adds}
 use Rattle.instant_net.proofs.Atoms.{if_ok, if_both}
 use Rattle.instant_net.proofs.Covering.{parts-covered}
 use Rattle.instant_net.proofs.Adding.{adds-skip, adds-tell, adds-hence, adds-next, adds-new, adds-par, adds-then, adds-else}
+use Rattle.instant_net.proofs.Rooms.{room-then, room-else, room-left, room-right, room-new, room-filled}
 use Rattle.instant_net.proofs.walking.Walk.+add_node.Goals as goal
 
 pub atoms-requires-clause-fits : goal.atoms-requires-clause-fits
@@ -35,28 +36,28 @@ add_node-requires t c =
     let part = then_body c.args.self.now.program.now c.nodes.ensures.program c.args.node c.args.births.now c.requires.closure c.in-Then.ask c.in-Then.body (node_found c.args.self.now.program.now c.nodes.result.now c.args.node c.index-nodes-node.result c.nodes.ensures.all c.requires.closure.node c.index-nodes-node.is ∙ ap Some c.in-Then.is) in
     let above = part.above in
     let inside = part.inside in
-    (omega arith, (c.requires.named, (part.is_closure, (parts-covered c.args.self.now.program.now c.args.self.now.t c.nodes.ensures.program c.args.node c.args.births.now (nodes.Then c.in-Then.ask c.in-Then.body) (node_found c.args.self.now.program.now c.nodes.result.now c.args.node c.index-nodes-node.result c.nodes.ensures.all c.requires.closure.node c.index-nodes-node.is ∙ ap Some c.in-Then.is) (cell_names c.args.self.now.cells.now) c.requires.covered).1)))
+    (omega arith, (c.requires.named, (part.is_closure, ((parts-covered c.args.self.now.program.now c.args.self.now.t c.nodes.ensures.program c.args.node c.args.births.now (nodes.Then c.in-Then.ask c.in-Then.body) (node_found c.args.self.now.program.now c.nodes.result.now c.args.node c.index-nodes-node.result c.nodes.ensures.all c.requires.closure.node c.index-nodes-node.is ∙ ap Some c.in-Then.is) (cell_names c.args.self.now.cells.now) c.requires.covered).1, (let begun = c.in_ok-guard-in-Then.ensures.guards in room-then c.args.self.now.program.now c.nodes.ensures.program c.args.node c.args.parts.now.guards.items c.args.parts.now.leaves.items c.requires.room c.in-Then.ask c.in-Then.body (node_found c.args.self.now.program.now c.nodes.result.now c.args.node c.index-nodes-node.result c.nodes.ensures.all c.requires.closure.node c.index-nodes-node.is ∙ ap Some c.in-Then.is) c.begin_guard.new.self.guards.items c.begin_guard.new.self.leaves.items begun.0 begun.1 c.in_ok-guard-in-Then.ensures.leaves)))))
 
 pub add_node-requires-in-Else : goal.add_node-requires-in-Else
 add_node-requires-in-Else t c =
     let part = else_body c.args.self.now.program.now c.nodes.ensures.program c.args.node c.args.births.now c.requires.closure c.in-Else.ask c.in-Else.body (node_found c.args.self.now.program.now c.nodes.result.now c.args.node c.index-nodes-node.result c.nodes.ensures.all c.requires.closure.node c.index-nodes-node.is ∙ ap Some c.in-Else.is) in
     let above = part.above in
     let inside = part.inside in
-    (omega arith, (c.requires.named, (part.is_closure, (parts-covered c.args.self.now.program.now c.args.self.now.t c.nodes.ensures.program c.args.node c.args.births.now (nodes.Else c.in-Else.ask c.in-Else.body) (node_found c.args.self.now.program.now c.nodes.result.now c.args.node c.index-nodes-node.result c.nodes.ensures.all c.requires.closure.node c.index-nodes-node.is ∙ ap Some c.in-Else.is) (cell_names c.args.self.now.cells.now) c.requires.covered).1)))
+    (omega arith, (c.requires.named, (part.is_closure, ((parts-covered c.args.self.now.program.now c.args.self.now.t c.nodes.ensures.program c.args.node c.args.births.now (nodes.Else c.in-Else.ask c.in-Else.body) (node_found c.args.self.now.program.now c.nodes.result.now c.args.node c.index-nodes-node.result c.nodes.ensures.all c.requires.closure.node c.index-nodes-node.is ∙ ap Some c.in-Else.is) (cell_names c.args.self.now.cells.now) c.requires.covered).1, (let begun = c.in_ok-guard-in-Else.ensures.guards in room-else c.args.self.now.program.now c.nodes.ensures.program c.args.node c.args.parts.now.guards.items c.args.parts.now.leaves.items c.requires.room c.in-Else.ask c.in-Else.body (node_found c.args.self.now.program.now c.nodes.result.now c.args.node c.index-nodes-node.result c.nodes.ensures.all c.requires.closure.node c.index-nodes-node.is ∙ ap Some c.in-Else.is) c.begin_guard-in-Else.new.self.guards.items c.begin_guard-in-Else.new.self.leaves.items begun.0 begun.1 c.in_ok-guard-in-Else.ensures.leaves)))))
 
 pub add_node-requires-in-Par : goal.add_node-requires-in-Par
 add_node-requires-in-Par t c =
     let part = left_of c.args.self.now.program.now c.nodes.ensures.program c.args.node c.args.births.now c.requires.closure c.in-Par.left c.in-Par.right (node_found c.args.self.now.program.now c.nodes.result.now c.args.node c.index-nodes-node.result c.nodes.ensures.all c.requires.closure.node c.index-nodes-node.is ∙ ap Some c.in-Par.is) in
     let above = part.above in
     let inside = part.inside in
-    (omega arith, (c.requires.named, (part.is_closure, (parts-covered c.args.self.now.program.now c.args.self.now.t c.nodes.ensures.program c.args.node c.args.births.now (nodes.Par c.in-Par.left c.in-Par.right) (node_found c.args.self.now.program.now c.nodes.result.now c.args.node c.index-nodes-node.result c.nodes.ensures.all c.requires.closure.node c.index-nodes-node.is ∙ ap Some c.in-Par.is) (cell_names c.args.self.now.cells.now) c.requires.covered).0)))
+    (omega arith, (c.requires.named, (part.is_closure, ((parts-covered c.args.self.now.program.now c.args.self.now.t c.nodes.ensures.program c.args.node c.args.births.now (nodes.Par c.in-Par.left c.in-Par.right) (node_found c.args.self.now.program.now c.nodes.result.now c.args.node c.index-nodes-node.result c.nodes.ensures.all c.requires.closure.node c.index-nodes-node.is ∙ ap Some c.in-Par.is) (cell_names c.args.self.now.cells.now) c.requires.covered).0, (room-left c.args.self.now.program.now c.nodes.ensures.program c.args.node c.args.parts.now.guards.items c.args.parts.now.leaves.items c.requires.room c.in-Par.left c.in-Par.right (node_found c.args.self.now.program.now c.nodes.result.now c.args.node c.index-nodes-node.result c.nodes.ensures.all c.requires.closure.node c.index-nodes-node.is ∙ ap Some c.in-Par.is))))))
 
 pub add_node-requires-in-Par-2 : goal.add_node-requires-in-Par-2
 add_node-requires-in-Par-2 t c =
     let part = right_of c.args.self.now.program.now c.nodes.ensures.program c.args.node c.args.births.now c.requires.closure c.in-Par.left c.in-Par.right (node_found c.args.self.now.program.now c.nodes.result.now c.args.node c.index-nodes-node.result c.nodes.ensures.all c.requires.closure.node c.index-nodes-node.is ∙ ap Some c.in-Par.is) in
     let above = part.above in
     let inside = part.inside in
-    (omega arith, (c.requires.named, (part.is_closure, (parts-covered c.args.self.now.program.now c.args.self.now.t c.nodes.ensures.program c.args.node c.args.births.now (nodes.Par c.in-Par.left c.in-Par.right) (node_found c.args.self.now.program.now c.nodes.result.now c.args.node c.index-nodes-node.result c.nodes.ensures.all c.requires.closure.node c.index-nodes-node.is ∙ ap Some c.in-Par.is) (cell_names c.args.self.now.cells.now) c.requires.covered).1)))
+    (omega arith, (c.requires.named, (part.is_closure, ((parts-covered c.args.self.now.program.now c.args.self.now.t c.nodes.ensures.program c.args.node c.args.births.now (nodes.Par c.in-Par.left c.in-Par.right) (node_found c.args.self.now.program.now c.nodes.result.now c.args.node c.index-nodes-node.result c.nodes.ensures.all c.requires.closure.node c.index-nodes-node.is ∙ ap Some c.in-Par.is) (cell_names c.args.self.now.cells.now) c.requires.covered).1, (room-right c.args.self.now.program.now c.nodes.ensures.program c.args.node c.args.parts.now.guards.items c.args.parts.now.leaves.items c.requires.room c.in-Par.left c.in-Par.right (node_found c.args.self.now.program.now c.nodes.result.now c.args.node c.index-nodes-node.result c.nodes.ensures.all c.requires.closure.node c.index-nodes-node.is ∙ ap Some c.in-Par.is) c.args.self.now.cells.now c.args.self.now.t c.args.births.now c.args.last c.add_node-in-Par.new.parts.guards.items c.add_node-in-Par.new.parts.leaves.items c.in_ok-add_node-in-Par.ensures)))))
 
 pub add_node-requires-in-New : goal.add_node-requires-in-New
 add_node-requires-in-New t c =
@@ -64,7 +65,7 @@ add_node-requires-in-New t c =
     let part = new_body c.args.self.now.program.now c.nodes.ensures.program c.args.node c.args.births.now c.requires.closure c.in-New.cell c.in-New.body c.args.self.now.t (node_found c.args.self.now.program.now c.nodes.result.now c.args.node c.index-nodes-node.result c.nodes.ensures.all c.requires.closure.node c.index-nodes-node.is ∙ ap Some c.in-New.is) in
     let above = part.above in
     let inside = part.inside in
-    (omega arith, (c.requires.named, (subst (IsClosure c.args.self.now.program.now c.in-New.body) (sym grown) part.is_closure, subst (AgentCovered c.args.self.now.program.now c.args.self.now.t (cell_names c.args.self.now.cells.now) (agent_at c.args.self.now.program.now.nodes c.in-New.body)) (sym grown) (parts-covered c.args.self.now.program.now c.args.self.now.t c.nodes.ensures.program c.args.node c.args.births.now (nodes.New c.in-New.cell c.in-New.body) (node_found c.args.self.now.program.now c.nodes.result.now c.args.node c.index-nodes-node.result c.nodes.ensures.all c.requires.closure.node c.index-nodes-node.is ∙ ap Some c.in-New.is) (cell_names c.args.self.now.cells.now) c.requires.covered))))
+    (omega arith, (c.requires.named, (subst (IsClosure c.args.self.now.program.now c.in-New.body) (sym grown) part.is_closure, (subst (AgentCovered c.args.self.now.program.now c.args.self.now.t (cell_names c.args.self.now.cells.now) (agent_at c.args.self.now.program.now.nodes c.in-New.body)) (sym grown) (parts-covered c.args.self.now.program.now c.args.self.now.t c.nodes.ensures.program c.args.node c.args.births.now (nodes.New c.in-New.cell c.in-New.body) (node_found c.args.self.now.program.now c.nodes.result.now c.args.node c.index-nodes-node.result c.nodes.ensures.all c.requires.closure.node c.index-nodes-node.is ∙ ap Some c.in-New.is) (cell_names c.args.self.now.cells.now) c.requires.covered), (room-new c.args.self.now.program.now c.nodes.ensures.program c.args.node c.args.parts.now.guards.items c.args.parts.now.leaves.items c.requires.room c.in-New.cell c.in-New.body (node_found c.args.self.now.program.now c.nodes.result.now c.args.node c.index-nodes-node.result c.nodes.ensures.all c.requires.closure.node c.index-nodes-node.is ∙ ap Some c.in-New.is))))))
 
 pub returns-in-Skip : goal.returns-in-Skip
 returns-in-Skip t c =
@@ -93,24 +94,16 @@ returns-in_ok-once-in-Next t c =
 pub returns-in_ok-add_node-in-Then : goal.returns-in_ok-add_node-in-Then
 returns-in_ok-add_node-in-Then t c =
     let begun = c.in_ok-guard-in-Then.ensures.guards in
-    if_both (λ _. IsEnded c.add_node.new.parts.guards.items c.end_guard.new.self.guards.items c.in_ok-guard-in-Then.guard (length c.add_node.new.parts.leaves.items)) (λ _. c.end_guard.new.self.leaves.items ≡ c.add_node.new.parts.leaves.items)
-    (λ _. Adds c.args.self.now.program.now c.args.self.now.cells.now c.args.self.now.t c.args.node c.args.births.now c.args.last c.args.parts.now.guards.items c.end_guard.new.self.guards.items c.args.parts.now.leaves.items c.end_guard.new.self.leaves.items)
-    c.end_guard.result
-    (λ _ g l. adds-then c.args.self.now.program.now c.nodes.ensures.program c.args.self.now.cells.now c.args.self.now.t c.args.node c.args.births.now c.args.last c.in-Then.ask c.in-Then.body (node_found c.args.self.now.program.now c.nodes.result.now c.args.node c.index-nodes-node.result c.nodes.ensures.all c.requires.closure.node c.index-nodes-node.is ∙ ap Some c.in-Then.is) c.in_ok-ask-in-Then.ask c.in_ok-ask-in-Then.ensures c.in_ok-guard-in-Then.guard
+    adds-then c.args.self.now.program.now c.nodes.ensures.program c.args.self.now.cells.now c.args.self.now.t c.args.node c.args.births.now c.args.last c.in-Then.ask c.in-Then.body (node_found c.args.self.now.program.now c.nodes.result.now c.args.node c.index-nodes-node.result c.nodes.ensures.all c.requires.closure.node c.index-nodes-node.is ∙ ap Some c.in-Then.is) c.in_ok-ask-in-Then.ask c.in_ok-ask-in-Then.ensures c.in_ok-guard-in-Then.guard
     c.args.parts.now.guards.items c.begin_guard.new.self.guards.items c.add_node.new.parts.guards.items c.end_guard.new.self.guards.items c.args.parts.now.leaves.items c.begin_guard.new.self.leaves.items c.add_node.new.parts.leaves.items c.end_guard.new.self.leaves.items
-    begun.0 c.in_ok-guard-in-Then.ensures.number begun.1 begun.2 c.in_ok-guard-in-Then.ensures.leaves c.in_ok-add_node-in-Then.ensures g l)
-    c.end_guard.ensures.guards c.end_guard.ensures.leaves
+    begun.0 c.in_ok-guard-in-Then.ensures.number begun.1 begun.2 c.in_ok-guard-in-Then.ensures.leaves c.in_ok-add_node-in-Then.ensures c.end_guard.ensures.guards c.end_guard.ensures.leaves
 
 pub returns-in_ok-add_node-in-Else : goal.returns-in_ok-add_node-in-Else
 returns-in_ok-add_node-in-Else t c =
     let begun = c.in_ok-guard-in-Else.ensures.guards in
-    if_both (λ _. IsEnded c.add_node-in-Else.new.parts.guards.items c.end_guard-in-Else.new.self.guards.items c.in_ok-guard-in-Else.guard (length c.add_node-in-Else.new.parts.leaves.items)) (λ _. c.end_guard-in-Else.new.self.leaves.items ≡ c.add_node-in-Else.new.parts.leaves.items)
-    (λ _. Adds c.args.self.now.program.now c.args.self.now.cells.now c.args.self.now.t c.args.node c.args.births.now c.args.last c.args.parts.now.guards.items c.end_guard-in-Else.new.self.guards.items c.args.parts.now.leaves.items c.end_guard-in-Else.new.self.leaves.items)
-    c.end_guard-in-Else.result
-    (λ _ g l. adds-else c.args.self.now.program.now c.nodes.ensures.program c.args.self.now.cells.now c.args.self.now.t c.args.node c.args.births.now c.args.last c.in-Else.ask c.in-Else.body (node_found c.args.self.now.program.now c.nodes.result.now c.args.node c.index-nodes-node.result c.nodes.ensures.all c.requires.closure.node c.index-nodes-node.is ∙ ap Some c.in-Else.is) c.in_ok-ask-in-Else.ask c.in_ok-ask-in-Else.ensures c.in_ok-guard-in-Else.guard
+    adds-else c.args.self.now.program.now c.nodes.ensures.program c.args.self.now.cells.now c.args.self.now.t c.args.node c.args.births.now c.args.last c.in-Else.ask c.in-Else.body (node_found c.args.self.now.program.now c.nodes.result.now c.args.node c.index-nodes-node.result c.nodes.ensures.all c.requires.closure.node c.index-nodes-node.is ∙ ap Some c.in-Else.is) c.in_ok-ask-in-Else.ask c.in_ok-ask-in-Else.ensures c.in_ok-guard-in-Else.guard
     c.args.parts.now.guards.items c.begin_guard-in-Else.new.self.guards.items c.add_node-in-Else.new.parts.guards.items c.end_guard-in-Else.new.self.guards.items c.args.parts.now.leaves.items c.begin_guard-in-Else.new.self.leaves.items c.add_node-in-Else.new.parts.leaves.items c.end_guard-in-Else.new.self.leaves.items
-    begun.0 c.in_ok-guard-in-Else.ensures.number begun.1 begun.2 c.in_ok-guard-in-Else.ensures.leaves c.in_ok-add_node-in-Else.ensures g l)
-    c.end_guard-in-Else.ensures.guards c.end_guard-in-Else.ensures.leaves
+    begun.0 c.in_ok-guard-in-Else.ensures.number begun.1 begun.2 c.in_ok-guard-in-Else.ensures.leaves c.in_ok-add_node-in-Else.ensures c.end_guard-in-Else.ensures.guards c.end_guard-in-Else.ensures.leaves
 
 pub returns-in_ok-add_node-in-Par : goal.returns-in_ok-add_node-in-Par
 returns-in_ok-add_node-in-Par t c =
@@ -129,3 +122,17 @@ returns-in_ok-inner-in-New t c =
     c.add_node-in-New.result
     (λ _ h. adds-new c.args.self.now.program.now c.nodes.ensures.program c.args.self.now.cells.now c.args.self.now.t c.args.node c.args.births.now c.args.last c.in-New.cell c.in-New.body c.list.result.now (node_found c.args.self.now.program.now c.nodes.result.now c.args.node c.index-nodes-node.result c.nodes.ensures.all c.requires.closure.node c.index-nodes-node.is ∙ ap Some c.in-New.is) grown c.args.parts.now.guards.items c.add_node-in-New.new.parts.guards.items c.args.parts.now.leaves.items c.add_node-in-New.new.parts.leaves.items h)
     c.add_node-in-New.ensures
+
+pub end_guard-requires-clause-few_leaves : goal.end_guard-requires-clause-few_leaves
+end_guard-requires-clause-few_leaves t c =
+    let begun = c.in_ok-guard-in-Then.ensures.guards in
+    room-filled c.args.self.now.program.now c.nodes.ensures.program c.in-Then.body c.begin_guard.new.self.guards.items c.begin_guard.new.self.leaves.items
+    (room-then c.args.self.now.program.now c.nodes.ensures.program c.args.node c.args.parts.now.guards.items c.args.parts.now.leaves.items c.requires.room c.in-Then.ask c.in-Then.body (node_found c.args.self.now.program.now c.nodes.result.now c.args.node c.index-nodes-node.result c.nodes.ensures.all c.requires.closure.node c.index-nodes-node.is ∙ ap Some c.in-Then.is) c.begin_guard.new.self.guards.items c.begin_guard.new.self.leaves.items begun.0 begun.1 c.in_ok-guard-in-Then.ensures.leaves)
+    c.args.self.now.cells.now c.args.self.now.t c.args.births.now (Some c.in_ok-guard-in-Then.guard) c.add_node.new.parts.guards.items c.add_node.new.parts.leaves.items c.in_ok-add_node-in-Then.ensures
+
+pub end_guard-requires-in-Else-clause-few_leaves : goal.end_guard-requires-in-Else-clause-few_leaves
+end_guard-requires-in-Else-clause-few_leaves t c =
+    let begun = c.in_ok-guard-in-Else.ensures.guards in
+    room-filled c.args.self.now.program.now c.nodes.ensures.program c.in-Else.body c.begin_guard-in-Else.new.self.guards.items c.begin_guard-in-Else.new.self.leaves.items
+    (room-else c.args.self.now.program.now c.nodes.ensures.program c.args.node c.args.parts.now.guards.items c.args.parts.now.leaves.items c.requires.room c.in-Else.ask c.in-Else.body (node_found c.args.self.now.program.now c.nodes.result.now c.args.node c.index-nodes-node.result c.nodes.ensures.all c.requires.closure.node c.index-nodes-node.is ∙ ap Some c.in-Else.is) c.begin_guard-in-Else.new.self.guards.items c.begin_guard-in-Else.new.self.leaves.items begun.0 begun.1 c.in_ok-guard-in-Else.ensures.leaves)
+    c.args.self.now.cells.now c.args.self.now.t c.args.births.now (Some c.in_ok-guard-in-Else.guard) c.add_node-in-Else.new.parts.guards.items c.add_node-in-Else.new.parts.leaves.items c.in_ok-add_node-in-Else.ensures

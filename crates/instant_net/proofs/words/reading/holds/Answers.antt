@@ -1,7 +1,7 @@
 use Rattle.std.proofs.Common.{ap, ◌∙◌}
 use Rattle.token_system.specs.declared.cell.Token.TheVariants.{On}
-use Rattle.instant_net.specs.NamedLeaves.{entails}
-use Rattle.instant_net.specs.Nets.{named}
+use Rattle.instant_net.specs.NamedLeaves.{named_entails}
+use Rattle.instant_net.specs.Nets.{named_atoms}
 use Rattle.instant_net.specs.Words.{store_in}
 use Rattle.instant_net.proofs.NetParts.{ask_fits, atom_read}
 use Rattle.instant_net.proofs.AskWalks.{left_next, left_fails, left_ends}
@@ -14,7 +14,7 @@ has-requires-clause-fits c =
 pub returns-then-not-has : goal.returns-then-not-has
 returns-then-not-has c =
     left_fails c.args.net.now.cells (store_in c.args.net.now.cells c.args.words.now) c.ask-atom-items.result.now c.loop-atom.atom-index (record { cell = 0; token = On }) c.loop-atom.invariant c.loop-atom-test.true c.has.result c.has.ensures c.if-not-has.true
-    ∙ ap (λ xs. entails (store_in c.args.net.now.cells c.args.words.now) (named c.args.net.now.cells xs)) c.ask-atom-items.ensures.ask
+    ∙ ap (λ xs. named_entails (store_in c.args.net.now.cells c.args.words.now) (named_atoms c.args.net.now.cells xs)) c.ask-atom-items.ensures.ask
 
 pub loop-atom-preserved : goal.loop-atom-preserved
 loop-atom-preserved c =
@@ -23,4 +23,4 @@ loop-atom-preserved c =
 pub returns : goal.returns
 returns c =
     left_ends c.args.net.now.cells (store_in c.args.net.now.cells c.args.words.now) c.ask-atom-items.result.now c.loop-atom.atom-index c.loop-atom.invariant c.loop-atom-test.false
-    ∙ ap (λ xs. entails (store_in c.args.net.now.cells c.args.words.now) (named c.args.net.now.cells xs)) c.ask-atom-items.ensures.ask
+    ∙ ap (λ xs. named_entails (store_in c.args.net.now.cells c.args.words.now) (named_atoms c.args.net.now.cells xs)) c.ask-atom-items.ensures.ask
