@@ -24,3 +24,4 @@ pub mod FreeForms
 pub mod WatchedLeaves
 pub mod StoppedLeaves
 pub mod StoppedRuns
+pub mod WorkedLeaves

@@ -5,3 +5,4 @@ pub mod Numbering
 pub mod Expansions
 pub mod Origins
 pub mod Paths
+pub mod WorkedForms

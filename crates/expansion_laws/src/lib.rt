@@ -7,9 +7,11 @@ mod origins;
 mod programs;
 mod stops;
 mod watches;
+mod worked;
 
 pub use clocks::clocks_law;
 pub use origins::origins_law;
 pub use programs::{expansion_law, sizes_law};
 pub use stops::stops_law;
 pub use watches::watches_law;
+pub use worked::worked_law;
