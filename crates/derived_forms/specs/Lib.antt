@@ -4,4 +4,3 @@ pub mod Growing
 pub mod Placing
 pub mod Numbered
 pub mod Refusals
-pub mod Promises

@@ -1,11 +1,10 @@
 // The core program of a surface.
 ghost use Rattle.std.specs.Prelude.{◌≡◌, ◌+◌, ◌≤◌, IfErr, IfOk, length, reverse};
 ghost use Rattle.core_text.specs.GoodNames.{HasGoodNames};
-ghost use Rattle.expansion_laws.specs.Expansions.{IsExpansion, IsSketchOf};
+ghost use Rattle.expansion_laws.specs.Expansions.{IsExpansion, IsSketchOf, OnItsTree};
 ghost use Rattle.expansion_laws.specs.Paths.{StopsForGood, TellsAreClocked, TellsAreGuarded, TellsStem};
 ghost use Rattle.expansion_laws.specs.Sketches.{Sketch, marks, size};
 ghost use Rattle.derived_forms.specs.Pieces.{pieces};
-ghost use Rattle.derived_forms.specs.Promises.{OnItsTree};
 ghost use Rattle.derived_forms.specs.Refusals.{Refuses};
 ghost use Rattle.derived_forms.specs.declared.fault.ExpandFault as ExpandFault;
 

@@ -25,3 +25,4 @@ pub mod WatchedLeaves
 pub mod StoppedLeaves
 pub mod StoppedRuns
 pub mod WorkedLeaves
+pub mod RunTells

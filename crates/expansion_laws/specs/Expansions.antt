@@ -23,3 +23,7 @@ pub record IsProgramOf (s : SurfaceProgram) (d : Sketch) (p : CoreProgram) : Typ
 -- this is the core program of the surface
 abbrev pub IsExpansion : SurfaceProgram → CoreProgram → Type 0
 IsExpansion s p = (d : Sketch) × IsSketchOf s d × IsProgramOf s d p
+
+-- what is said of a surface, its tree, the sketch of that and the program holds of them
+abbrev pub OnItsTree : SurfaceProgram → (SurfaceProgram → Tree → Sketch → CoreProgram → Type 0) → CoreProgram → Type 0
+OnItsTree s Holds p = (tree : Tree) → s.forms ≡ form_listing 0 tree → Holds s tree (sketch_of (length s.cells) 0 tree) p

@@ -5,4 +5,5 @@ pub mod Numbering
 pub mod Expansions
 pub mod Origins
 pub mod Paths
+pub mod RunTells
 pub mod WorkedForms

@@ -4,6 +4,7 @@
 
 mod clocks;
 mod origins;
+mod outputs;
 mod programs;
 mod stops;
 mod watches;
@@ -11,6 +12,7 @@ mod worked;
 
 pub use clocks::clocks_law;
 pub use origins::origins_law;
+pub use outputs::{clock_law, watching_law};
 pub use programs::{expansion_law, sizes_law};
 pub use stops::stops_law;
 pub use watches::watches_law;

@@ -4,10 +4,10 @@ use Rattle.agent_core.specs.declared.node.CellDecl.{CellDecl}
 use Rattle.core_text.specs.GoodNames.{HasGoodNames}
 use Rattle.expansion_laws.specs.Expanding.{sketch_of}
 use Rattle.expansion_laws.specs.Sketches.{size}
+use Rattle.expansion_laws.specs.Expansions.{OnItsTree}
 use Rattle.expansion_laws.specs.Numbering.{agent_of, cells_from}
 use Rattle.expansion_laws.specs.Paths.{StopsForGood, TellsAreClocked, TellsAreGuarded, TellsStem}
 use Rattle.derived_forms.specs.Pieces.{pieces}
-use Rattle.derived_forms.specs.Promises.{OnItsTree}
 use Rattle.derived_forms.proofs.Expanded.{Expands, by_tree, cells_few, drawn, expansion_made, grown_many, its_forms, its_program, its_sketch, its_tree, local_few, nodes_few, sketch_large}
 use Rattle.derived_forms.proofs.expansion.expand.Goals as goal
 
