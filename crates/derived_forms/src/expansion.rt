@@ -2,7 +2,8 @@
 ghost use Rattle.std.specs.Prelude.{◌≡◌, ◌+◌, ◌≤◌, IfErr, IfOk, length, reverse};
 ghost use Rattle.core_text.specs.GoodNames.{HasGoodNames};
 ghost use Rattle.expansion_laws.specs.Expansions.{IsExpansion, IsSketchOf, OnItsTree};
-ghost use Rattle.expansion_laws.specs.Paths.{StopsForGood, TellsAreClocked, TellsAreGuarded, TellsStem};
+ghost use Rattle.expansion_laws.specs.Paths.{TellsAreClocked, TellsAreGuarded, TellsStem};
+ghost use Rattle.expansion_laws.specs.Stops.{StopsForGood};
 ghost use Rattle.expansion_laws.specs.Sketches.{Sketch, marks, size};
 ghost use Rattle.derived_forms.specs.Pieces.{pieces};
 ghost use Rattle.derived_forms.specs.Refusals.{Refuses};

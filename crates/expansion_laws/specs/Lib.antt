@@ -5,5 +5,6 @@ pub mod Numbering
 pub mod Expansions
 pub mod Origins
 pub mod Paths
+pub mod Stops
 pub mod RunTells
 pub mod WorkedForms

@@ -1,23 +1,19 @@
--- What stands above the tells that an expansion copies. A watching that was stopped runs nothing more, and a clocked agent
--- runs at the instants of its clock alone. This project's own.
-use Rattle.std.specs.Prelude.{◌≡◌, ◌⊎◌, ℕ, suc, ◌+◌, ◌<◌, ◌≤◌, List, ◌∷◌, [], ◌++◌, length, take, Some, None, All, Contains, slice_get, IsTrue, IsFalse}
+-- What stands above the tells that an expansion copies: the absence of the hidden signal of each watching, and the clock of
+-- each time around them. This project's own.
+use Rattle.std.specs.Prelude.{◌≡◌, ◌⊎◌, ℕ, suc, ◌+◌, ◌<◌, List, length, Some, None, All, Contains, slice_get}
 use Rattle.token_system.specs.declared.cell.Token.{Token}
 use Rattle.token_system.specs.Stores.{StoreMap}
 use Rattle.agent_core.specs.Agents.{Constraint}
 use Rattle.agent_core.specs.Agents as agent
 use Rattle.agent_core.specs.Programs.{CoreProgram}
-use Rattle.token_system.specs.declared.name.CellName.TheVariants.{Local}
-use Rattle.agent_core.specs.declared.node.Node.TheVariants as nodes
-use Rattle.agent_core.specs.Names.{name_of, new_of}
-use Rattle.agent_core.specs.Outputs.{IsRun}
-use Rattle.agent_core.specs.Rests.{entails}
+use Rattle.agent_core.specs.Names.{name_of}
 use Rattle.agent_core.specs.Closures.{roots}
-use Rattle.agent_core.specs.Leaves.{Leaf, Positive, Negative, leaves, runs}
+use Rattle.agent_core.specs.Leaves.{Leaf, Positive, Negative, leaves}
 use Rattle.tdcc_reader.specs.Surfaces.{SurfaceProgram}
 use Rattle.tdcc_reader.specs.Trees.{Tree, Tell, Watch, Time, form_count}
 use Rattle.expansion_laws.specs.Sketches.{Sketch, origins}
 use Rattle.expansion_laws.specs.Table.{on}
-use Rattle.expansion_laws.specs.Origins.{part, parts, free_parts, cell_marks, copied, IsAround, AreAround}
+use Rattle.expansion_laws.specs.Origins.{part, parts, cell_marks, copied, IsAround, AreAround}
 
 -- the cell is the hidden one of form m
 abbrev pub IsHidden : SurfaceProgram → Sketch → ℕ → ℕ → Type 0
@@ -83,27 +79,3 @@ abbrev pub TellsAreClocked : SurfaceProgram → Tree → Sketch → CoreProgram 
 TellsAreClocked s tree d p =
     (m : ℕ) (a : Tree) (c : Constraint) (z : List StoreMap) (l : Leaf) →
     Contains (parts 0 tree) (part m (Time a c)) → IsTellInside s d p z m a l → IsOnClock s d p l c
-
--- the leaf belongs to a watching on this constraint that was started at this instant, under these births; the third node
--- behind the new of its hidden signal asks for the constraint
-pub record IsWatched (s : SurfaceProgram) (d : Sketch) (p : CoreProgram) (m : ℕ) (c : Constraint) (l : Leaf) (start : ℕ) (births : List ℕ) (ask : Constraint) : Type 0 where
-  pub hidden : ℕ
-  pub is : IsHidden s d m hidden
-  pub around : IsAround p hidden l.node
-  pub denied : Contains l.path (Negative l.births (on hidden))
-  pub more : List ℕ
-  pub first : l.births ≡ births ++ start ∷ more
-  pub named : name_of p l.births hidden ≡ Local (new_of p.nodes hidden) (births ++ start ∷ [])
-  pub body : ℕ
-  pub asked : slice_get p.nodes (new_of p.nodes hidden + 3) ≡ Some (nodes.Then ask body)
-  pub copies : copied (cell_marks s d) ask ≡ c
-
--- Where a watching stands in no body of a watching or of a time, the copy of it around a tell that stems from a form inside was
--- started at some instant; once an output since then entails its constraint, the tell is not run.
-abbrev pub StopsForGood : SurfaceProgram → Tree → Sketch → CoreProgram → Type 0
-StopsForGood s tree d p =
-    (m : ℕ) (a : Tree) (c : Constraint) (ins outs : List StoreMap) (t : ℕ) (v : StoreMap) (l : Leaf) →
-    Contains (free_parts 0 tree) (part m (Watch a c)) → IsRun p ins outs → slice_get outs t ≡ Some v →
-    IsTellInside s d p (take t outs) m a l →
-    (start : ℕ) × (births : List ℕ) × (ask : Constraint) × IsWatched s d p m c l start births ask × (start ≤ t)
-    × ((n : ℕ) (w : StoreMap) → start ≤ n → n ≤ t → slice_get outs n ≡ Some w → IsTrue (entails p births w ask) → IsFalse (runs p v l))

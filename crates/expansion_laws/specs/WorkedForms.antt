@@ -14,7 +14,8 @@ use Rattle.expansion_laws.specs.Sketches.{Sketch}
 use Rattle.expansion_laws.specs.Table.{on}
 use Rattle.expansion_laws.specs.Expanding.{sketch_of}
 use Rattle.expansion_laws.specs.Expansions.{IsExpansion}
-use Rattle.expansion_laws.specs.Paths.{IsTellInside, IsWatched, IsOnClock}
+use Rattle.expansion_laws.specs.Paths.{IsTellInside, IsOnClock}
+use Rattle.expansion_laws.specs.Stops.{WatchingForm, StartedCopy, IsWatched}
 
 -- the signal `b`, and the hidden signal whose name is a dollar and this digit
 abbrev pub b_decl : CellDecl
@@ -61,13 +62,20 @@ first_watched = leaf 16 (agent.Tell (on 1)) (0 ∷ []) (Negative (0 ∷ []) (on 
 abbrev pub later_watched : Leaf
 later_watched = leaf 19 (agent.Tell (on 1)) (0 ∷ []) (Negative (0 ∷ []) (on 2) ∷ [])
 
--- both are tells inside the watching, and belong to the copy of it that was started at instant 0
+-- the watching, and the copy of it that was started at instant 0
+abbrev pub watching_form : WatchingForm
+watching_form = record { number = 0; body = always_b; stop = a_on }
+
+abbrev pub first_copy : StartedCopy
+first_copy = record { hidden = 2; start = 0; births = []; stop = a_on }
+
+-- both are tells inside the watching, and belong to that copy
 pub record WorksForWatching : Type 0 where
   pub expansion : IsExpansion watching_surface watching_core
   pub first : IsTellInside watching_surface watching_sketch watching_core [] 0 always_b first_watched
   pub later : IsTellInside watching_surface watching_sketch watching_core (nothing ∷ []) 0 always_b later_watched
-  pub first_stopped : IsWatched watching_surface watching_sketch watching_core 0 a_on first_watched 0 [] a_on
-  pub later_stopped : IsWatched watching_surface watching_sketch watching_core 0 a_on later_watched 0 [] a_on
+  pub first_stopped : IsWatched watching_surface watching_sketch watching_core watching_form first_copy first_watched
+  pub later_stopped : IsWatched watching_surface watching_sketch watching_core watching_form first_copy later_watched
 
 -- `signal a, b; time next b on a`
 abbrev pub time_surface : SurfaceProgram

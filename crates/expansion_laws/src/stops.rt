@@ -6,7 +6,7 @@ ghost use Rattle.tdcc_reader.specs.Texts.{IsSurface};
 ghost use Rattle.tdcc_reader.specs.Trees.{Tree, form_listing};
 ghost use Rattle.expansion_laws.specs.Expanding.{sketch_of};
 ghost use Rattle.expansion_laws.specs.Expansions.{IsProgramOf};
-ghost use Rattle.expansion_laws.specs.Paths.{StopsForGood};
+ghost use Rattle.expansion_laws.specs.Stops.{StopsForGood};
 
 use crate::programs::expansion_law;
 use surface_laws::surface_law;

@@ -6,7 +6,8 @@ use Rattle.expansion_laws.specs.Expanding.{sketch_of}
 use Rattle.expansion_laws.specs.Sketches.{size}
 use Rattle.expansion_laws.specs.Expansions.{OnItsTree}
 use Rattle.expansion_laws.specs.Numbering.{agent_of, cells_from}
-use Rattle.expansion_laws.specs.Paths.{StopsForGood, TellsAreClocked, TellsAreGuarded, TellsStem}
+use Rattle.expansion_laws.specs.Paths.{TellsAreClocked, TellsAreGuarded, TellsStem}
+use Rattle.expansion_laws.specs.Stops.{StopsForGood}
 use Rattle.derived_forms.specs.Pieces.{pieces}
 use Rattle.derived_forms.proofs.Expanded.{Expands, by_tree, cells_few, drawn, expansion_made, grown_many, its_forms, its_program, its_sketch, its_tree, local_few, nodes_few, sketch_large}
 use Rattle.derived_forms.proofs.expansion.expand.Goals as goal

@@ -28,28 +28,14 @@ returns-clause-watching c = record {
     before = omega arith;
   };
   first_stopped = record {
-    hidden = 2;
-    is = refl;
-    around = record { new = 0; body = 1; found = refl; behind = omega arith; inside = omega arith };
-    denied = (0, omega arith, refl);
-    more = [];
-    first = refl;
-    named = refl;
-    body = 4;
-    asked = refl;
-    copies = refl;
+    waits = record { is = refl; around = record { new = 0; body = 1; found = refl; behind = omega arith; inside = omega arith }; denied = (0, omega arith, refl) };
+    comes = record { more = []; first = refl; named = refl };
+    asks = record { body = 4; asked = refl; copies = refl };
   };
   later_stopped = record {
-    hidden = 2;
-    is = refl;
-    around = record { new = 0; body = 1; found = refl; behind = omega arith; inside = omega arith };
-    denied = (0, omega arith, refl);
-    more = [];
-    first = refl;
-    named = refl;
-    body = 4;
-    asked = refl;
-    copies = refl;
+    waits = record { is = refl; around = record { new = 0; body = 1; found = refl; behind = omega arith; inside = omega arith }; denied = (0, omega arith, refl) };
+    comes = record { more = []; first = refl; named = refl };
+    asks = record { body = 4; asked = refl; copies = refl };
   };
 }
 
