@@ -1,9 +1,8 @@
 -- Sketches on a clock, and the lists of their nodes.
-use Rattle.std.proofs.Common.{◌≡◌, ℕ, suc, ◌+◌, ◌≤◌, List, [], ◌∷◌, ◌++◌, length, refl, ap, sym, ◌∙◌, arith}
+use Rattle.std.proofs.Common.{◌≡◌, ℕ, ◌+◌, ◌≤◌, List, [], ◌∷◌, ◌++◌, length, refl, ap, sym, ◌∙◌, arith}
 use Rattle.std.specs.Prelude.{◌≢◌}
 use Rattle.std.specs.List.{flat_map}
-use Rattle.std.proofs.lemmas.List.{append-nil, append_assoc, length-append}
-use Rattle.std.proofs.lemmas.List.Concat.{flat_map-append}
+use Rattle.std.proofs.lemmas.List.{append-nil, length-append}
 use Rattle.agent_core.specs.Agents.{Constraint}
 use Rattle.expansion_laws.specs.Sketches.{Sketch, Skip, Tell, Then, Else, Par, New, Hence, Next, size}
 use Rattle.expansion_laws.specs.Table.{when, clocked}

@@ -1,5 +1,5 @@
 -- The core program that is made of a surface, by its tree: its sizes, and that it is the surface's program.
-use Rattle.std.proofs.Common.{◌≡◌, ℕ, suc, ◌+◌, ◌-◌, ◌<◌, ◌≤◌, List, [], ◌∷◌, ◌++◌, length, take, refl, sym, ap, ◌∙◌, subst, arith, length-append, zero}
+use Rattle.std.proofs.Common.{◌≡◌, ℕ, suc, ◌+◌, ◌-◌, ◌<◌, ◌≤◌, List, [], ◌++◌, length, take, refl, sym, ap, ◌∙◌, subst, arith, length-append, zero}
 use Rattle.std.specs.Prelude.{reverse}
 use Rattle.std.proofs.lemmas.List.{length-reverse}
 use Rattle.agent_core.specs.declared.node.CellDecl.{CellDecl}
@@ -11,10 +11,10 @@ use Rattle.tdcc_reader.specs.Surfaces.{SurfaceProgram}
 use Rattle.tdcc_reader.specs.Texts.{IsSurface}
 use Rattle.tdcc_reader.specs.Trees as tree
 use Rattle.tdcc_reader.specs.Trees.{Tree}
-use Rattle.surface_laws.specs.Surfaces.{IsWellFormedSurface, new_cells}
+use Rattle.surface_laws.specs.Surfaces.{new_cells}
 use Rattle.surface_laws.proofs.WellFormed.{surface_formed}
 use Rattle.expansion_laws.specs.Sketches.{Sketch, Skip, Tell, Then, Else, Par, New, Hence, Next, size, marks}
-use Rattle.expansion_laws.specs.Table.{guarded, clocked, when, watching, timed, always}
+use Rattle.expansion_laws.specs.Table.{guarded, clocked}
 use Rattle.expansion_laws.specs.Expanding.{sketch_of}
 use Rattle.expansion_laws.specs.Expansions.{IsExpansion, IsProgramOf, IsSketchOf}
 use Rattle.expansion_laws.specs.Numbering.{agent_of, cells_from}

@@ -10,7 +10,7 @@ use Rattle.tdcc_reader.specs.Trees as tree
 use Rattle.expansion_laws.specs.Expanding.{sketch_of}
 use Rattle.expansion_laws.specs.Origins.{Part, part}
 use Rattle.expansion_laws.specs.Sketches.{Sketch, Skip, Tell, Then, Else, Par, New, Hence, Next, size}
-use Rattle.expansion_laws.specs.Table.{always, when, guarded, watching, clocked, timed}
+use Rattle.expansion_laws.specs.Table.{guarded, clocked}
 use Rattle.derived_forms.specs.declared.piece.Piece.{Piece}
 use Rattle.derived_forms.specs.Growing.{first_form, sketch_pieces, tree_parts}
 use Rattle.derived_forms.specs.Pieces.{pieces}

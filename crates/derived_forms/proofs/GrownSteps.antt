@@ -1,7 +1,7 @@
 -- One form further to the front, while the sketch of a surface is grown.
 use Rattle.std.proofs.Common.{◌≡◌, ℕ, ◌+◌, ◌<◌, ◌≤◌, List, [], ◌∷◌, ◌++◌, length, take, get_or, refl, ap, sym, ◌∙◌, subst, arith}
 use Rattle.std.specs.List.{flat_map}
-use Rattle.std.proofs.lemmas.List.{append-nil, length-append, length-take-le, take_more, take_all}
+use Rattle.std.proofs.lemmas.List.{append-nil, length-take-le, take_more}
 use Rattle.tdcc_reader.specs.declared.surface.Form.{Form}
 use Rattle.tdcc_reader.specs.Trees.{Tree, form_listing}
 use Rattle.expansion_laws.specs.Expanding.{sketch_of}
@@ -10,7 +10,7 @@ use Rattle.expansion_laws.specs.Sketches.{size}
 use Rattle.derived_forms.specs.declared.piece.Piece.{Piece}
 use Rattle.derived_forms.specs.Growing.{first_form, sketch_pieces, tree_parts}
 use Rattle.derived_forms.specs.Pieces.{pieces}
-use Rattle.derived_forms.proofs.Forests.{IsRow, behind, row-behind}
+use Rattle.derived_forms.proofs.Forests.{IsRow, row-behind}
 use Rattle.derived_forms.proofs.Backwards.{IsBack, back_start, back_step, back_end}
 use Rattle.derived_forms.proofs.GrownForms.{forms-split, part_form, part_forms, part_number, part_parts, part_size, parts_follow, parts_no_longer}
 use Rattle.derived_forms.proofs.Sketched.{length-pieces}

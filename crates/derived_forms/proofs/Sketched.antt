@@ -1,15 +1,14 @@
 -- Sketches and the lists of their nodes.
 use Rattle.std.proofs.Common.{◌≡◌, ℕ, suc, ◌+◌, ◌≤◌, List, [], ◌∷◌, ◌++◌, length, refl, ap, sym, ◌∙◌, arith}
 use Rattle.std.specs.List.{flat_map}
-use Rattle.std.proofs.lemmas.List.{append-nil, append_assoc, length-append}
+use Rattle.std.proofs.lemmas.List.{append-nil, length-append}
 use Rattle.std.proofs.lemmas.List.Concat.{flat_map-append}
-use Rattle.agent_core.specs.Agents.{Constraint}
 use Rattle.expansion_laws.specs.Sketches.{Sketch, Skip, Tell, Then, Else, Par, New, Hence, Next, size}
-use Rattle.expansion_laws.specs.Table.{always, when, guarded, watching, clocked, timed}
+use Rattle.expansion_laws.specs.Table.{guarded}
 use Rattle.derived_forms.specs.declared.piece.Piece.{Piece}
 use Rattle.derived_forms.specs.declared.piece.Piece.TheVariants as piece
 use Rattle.derived_forms.specs.Pieces.{first, parts, pieces, guarded_piece, part_count}
-use Rattle.derived_forms.proofs.Forests.{Splits, opened}
+use Rattle.derived_forms.proofs.Forests.{Splits}
 
 -- a node and the nodes of its one part
 one_part : (p : Piece) (l : List Piece) → p ∷ l ≡ p ∷ (l ++ [])

@@ -1,6 +1,8 @@
 // The core program of a surface.
 ghost use Rattle.std.specs.Prelude.{◌≡◌, ◌+◌, ◌≤◌, IfErr, IfOk, length, reverse};
+ghost use Rattle.agent_core.specs.WellFormed.{IsWellFormed};
 ghost use Rattle.core_text.specs.GoodNames.{HasGoodNames};
+ghost use Rattle.tdcc_reader.specs.Texts.{IsSurface};
 ghost use Rattle.expansion_laws.specs.Expansions.{IsExpansion, IsSketchOf, OnItsTree};
 ghost use Rattle.expansion_laws.specs.Paths.{TellsAreClocked, TellsAreGuarded, TellsStem};
 ghost use Rattle.expansion_laws.specs.Stops.{StopsForGood};
@@ -17,7 +19,7 @@ use crate::numbering::number_nodes;
 use crate::piece::Piece;
 use crate::placing::place_cells;
 use agent_core::Program;
-use expansion_laws::{clocks_law, expansion_law, origins_law, sizes_law, stops_law, watches_law};
+use expansion_laws::{expansion_law, paths_law, sizes_law, stops_law};
 use std::alloc::{AllocError, Global};
 use tdcc_reader::Surface;
 
@@ -34,6 +36,37 @@ fn marks_of(alloc: Global, grown: &[Piece]) -> Result<Vec<u32>, AllocError>
         .rev()
         .filter_map(|piece| piece.mark())
         .collect(alloc)
+}
+
+/// The core program of a surface.
+fn core_program(alloc: Global, surface: &Surface) -> Result<Program, ExpandFault>
+    ensures surface { IsSurface surface.now }
+    ensures program { IfOk result IsWellFormed }
+    ensures found { IfOk result (IsExpansion surface.now) }
+    ensures fault { IfErr result (Refuses surface.now) }
+    ensures complete { (d : Sketch) → IsSketchOf surface.now d → size d ≤ 4096 → surface.now.declared + length (marks d) ≤ 1024
+        → IfErr result (λ fault. fault ≡ ExpandFault.Memory) }
+    ensures memory { IfErr result (λ fault. fault ≡ ExpandFault.Memory → length surface.now.forms ≤ 4096) }
+{
+    expansion_law();
+    sizes_law();
+    let forms = surface.forms();
+    let cells = surface.cells();
+    let declared = surface.declared();
+    if forms.len() > MAX_NODES {
+        return Err(ExpandFault::TooManyNodes);
+    }
+    let grown = grow(alloc, forms, cells.len() as u32)?;
+    let marks = marks_of(alloc, &grown)?;
+    if declared as usize + marks.len() > MAX_CELLS {
+        return Err(ExpandFault::TooManyCells);
+    }
+    let nodes = number_nodes(alloc, place_cells(alloc, declared, grown)?)?;
+    let cells = number_cells(alloc, cells, declared, &marks)?;
+    match Program::make(cells, declared, nodes) {
+        Some(program) => Ok(program),
+        None => unreachable!(),
+    }
 }
 
 /// The core program of a surface.
@@ -63,26 +96,8 @@ pub fn expand(alloc: Global, surface: &Surface) -> Result<Program, ExpandFault>
     ensures memory { IfErr result (λ fault. fault ≡ ExpandFault.Memory → length surface.now.forms ≤ 4096) }
 {
     expansion_law();
-    sizes_law();
-    origins_law();
-    watches_law();
-    clocks_law();
+    paths_law();
     stops_law();
-    let forms = surface.forms();
-    let cells = surface.cells();
-    let declared = surface.declared();
-    if forms.len() > MAX_NODES {
-        return Err(ExpandFault::TooManyNodes);
-    }
-    let grown = grow(alloc, forms, cells.len() as u32)?;
-    let marks = marks_of(alloc, &grown)?;
-    if declared as usize + marks.len() > MAX_CELLS {
-        return Err(ExpandFault::TooManyCells);
-    }
-    let nodes = number_nodes(alloc, place_cells(alloc, declared, grown)?)?;
-    let cells = number_cells(alloc, cells, declared, &marks)?;
-    match Program::make(cells, declared, nodes) {
-        Some(program) => Ok(program),
-        None => unreachable!(),
-    }
+    let program = core_program(alloc, surface)?;
+    Ok(program)
 }

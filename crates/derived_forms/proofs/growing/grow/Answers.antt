@@ -1,10 +1,7 @@
-use Rattle.std.proofs.Common.{◌≡◌, ◌+◌, ◌-◌, ◌<◌, ◌≤◌, [], length, take, ap, ◌∙◌, refl, arith}
-use Rattle.std.specs.Prelude.{reverse}
+use Rattle.std.proofs.Common.{◌≡◌, ◌+◌, ◌-◌, ◌<◌, ◌≤◌, length, take, ap, arith}
 use Rattle.std.proofs.lemmas.List.{take_all}
-use Rattle.tdcc_reader.specs.declared.surface.Form.{Form}
 use Rattle.expansion_laws.specs.Expanding.{sketch_of}
 use Rattle.expansion_laws.specs.Sketches.{size}
-use Rattle.derived_forms.specs.declared.piece.Piece.{Piece}
 use Rattle.derived_forms.specs.Growths.{nodes_of}
 use Rattle.derived_forms.proofs.Faults.{handed_on}
 use Rattle.derived_forms.proofs.GrownSteps.{grow_start, grow_step, grow_end}

@@ -1,9 +1,7 @@
-use Rattle.std.proofs.Common.{◌≡◌, [], ◌∷◌, ◌++◌, length, ap, sym, ◌∙◌, subst, List, arith, refl}
+use Rattle.std.proofs.Common.{◌≡◌, [], length, ap, sym, ◌∙◌, subst, arith}
 use Rattle.std.specs.Prelude.{reverse}
 use Rattle.std.proofs.lemmas.Grind.{common_steps}
 use Rattle.std.proofs.lemmas.List.{length_push}
-use Rattle.agent_core.specs.declared.node.Node.{Node}
-use Rattle.derived_forms.specs.declared.piece.Piece.{Piece}
 use Rattle.derived_forms.proofs.Stacks.{reverse_push}
 use Rattle.derived_forms.proofs.NumberedNodes.{IsNumbered, number_start, number_step, number_end}
 use Rattle.derived_forms.proofs.numbering.number_nodes.Goals as goal

@@ -1,4 +1,4 @@
-use Rattle.std.proofs.Common.{◌≡◌, ◌++◌, ℕ, vec_len}
+use Rattle.std.proofs.Common.{◌≡◌, ◌++◌, vec_len}
 use Rattle.derived_forms.specs.Growths.{nodes_of}
 use Rattle.derived_forms.proofs.growth.Growth.put_back.Given as goal
 

@@ -1,15 +1,14 @@
-use Rattle.std.proofs.Common.{◌≡◌, ◌+◌, ◌∷◌, ◌++◌, List, length, ap, sym, ◌∙◌, arith}
+use Rattle.std.proofs.Common.{◌+◌, ◌∷◌, ◌++◌, List, length, ap, sym, ◌∙◌, arith}
 use Rattle.std.specs.Prelude.{◌≢◌}
-use Rattle.std.specs.List.{flat_map}
 use Rattle.std.proofs.lemmas.Result.{IfOk-equal}
 use Rattle.expansion_laws.specs.Sketches.{size}
 use Rattle.expansion_laws.specs.Table.{clocked}
 use Rattle.derived_forms.specs.declared.piece.Piece.{Piece}
 use Rattle.derived_forms.specs.declared.piece.Piece.TheVariants as piece
 use Rattle.derived_forms.specs.Growths.{nodes_of}
-use Rattle.derived_forms.specs.Pieces.{first, parts, pieces}
+use Rattle.derived_forms.specs.Pieces.{first, pieces}
 use Rattle.derived_forms.proofs.Faults.{handed_on, still_too_large}
-use Rattle.derived_forms.proofs.Clocked.{on_clock, clocked_other, other_fits, hence_fits, next_fits}
+use Rattle.derived_forms.proofs.Clocked.{clocked_other, other_fits, hence_fits, next_fits}
 use Rattle.derived_forms.proofs.growth.Growth.put_clocked.Goals as goal
 
 pub returns-in_err-add-in-Hence-clause-fault : goal.returns-in_err-add-in-Hence-clause-fault

@@ -1,5 +1,5 @@
 use Rattle.expansion_laws.proofs.WholePrograms.{one_sketch, nodes_many, cells_many}
-use Rattle.expansion_laws.proofs.programs.sizes_law.Goals as goal
+use Rattle.expansion_laws.proofs.laws.sizes_law.Goals as goal
 
 pub returns-clause-nodes : goal.returns-clause-nodes
 returns-clause-nodes c = nodes_many

@@ -12,7 +12,7 @@ use Rattle.expansion_laws.specs.Table.{on}
 use Rattle.expansion_laws.specs.Origins.{IsAround}
 use Rattle.expansion_laws.specs.WorkedForms.{watching_sketch, watching_core, always_b, later_watched, time_sketch, time_core, next_b, clocked_tell}
 use Rattle.expansion_laws.proofs.WorkedLeaves.{watching_cells, watching_roots, time_cells, time_roots}
-use Rattle.expansion_laws.proofs.worked.worked_law.Goals as goal
+use Rattle.expansion_laws.proofs.laws.worked_law.Goals as goal
 
 pub returns-clause-watching : goal.returns-clause-watching
 returns-clause-watching c = record {

@@ -1,5 +1,5 @@
 use Rattle.expansion_laws.proofs.WholePrograms.{some_expansion, one_expansion, expansion_program, expansion_names}
-use Rattle.expansion_laws.proofs.programs.expansion_law.Goals as goal
+use Rattle.expansion_laws.proofs.laws.expansion_law.Goals as goal
 
 pub returns-clause-some : goal.returns-clause-some
 returns-clause-some c = λ s surface. some_expansion s (c.surface_law.ensures s surface)
