@@ -1,4 +1,4 @@
-pub mod Sketches
+pub mod SymbolicAgents
 pub mod Table
 pub mod Expanding
 pub mod Numbering

@@ -5,8 +5,8 @@ ghost use Rattle.agent_core.specs.Programs.{CoreProgram};
 ghost use Rattle.core_text.specs.GoodNames.{HasGoodNames};
 ghost use Rattle.tdcc_reader.specs.Surfaces.{SurfaceProgram};
 ghost use Rattle.tdcc_reader.specs.Texts.{IsSurface};
-ghost use Rattle.expansion_laws.specs.Sketches.{Sketch, marks, size};
-ghost use Rattle.expansion_laws.specs.Expansions.{IsExpansion, IsProgramOf, IsSketchOf, OnItsTree};
+ghost use Rattle.expansion_laws.specs.SymbolicAgents.{SymbolicAgent, binders, symbolic_size};
+ghost use Rattle.expansion_laws.specs.Expansions.{IsExpansion, IsCoreOfSymbolic, IsSymbolicOf, OnItsTree};
 ghost use Rattle.expansion_laws.specs.Paths.{TellsAreClocked, TellsAreGuarded, TellsStem};
 ghost use Rattle.expansion_laws.specs.Stops.{StopsForGood};
 ghost use Rattle.expansion_laws.specs.RunTells.{HiddenSignalStops, RunsOnItsClock};
@@ -27,12 +27,14 @@ pub fn expansion_law()
     surface_law();
 }
 
-/// The core program of a surface has the nodes of its sketch, and a cell for each new of it behind the declared ones.
+/// The core program of a surface has the nodes of its symbolic agent, and a cell for each new of it behind the
+/// declared ones.
 pub fn sizes_law()
-    ensures nodes { (s : SurfaceProgram) (d : Sketch) (p : CoreProgram) → IsProgramOf s d p → length p.nodes ≡ size d }
-    ensures cells { (s : SurfaceProgram) (d : Sketch) (p : CoreProgram) → IsSurface s → IsProgramOf s d p
-        → length p.cells ≡ s.declared + length (marks d) }
-    ensures one { (s : SurfaceProgram) (d e : Sketch) → IsSketchOf s d → IsSketchOf s e → d ≡ e }
+    ensures nodes { (s : SurfaceProgram) (d : SymbolicAgent) (p : CoreProgram) → IsCoreOfSymbolic s d p
+        → length p.nodes ≡ symbolic_size d }
+    ensures cells { (s : SurfaceProgram) (d : SymbolicAgent) (p : CoreProgram) → IsSurface s → IsCoreOfSymbolic s d p
+        → length p.cells ≡ s.declared + length (binders d) }
+    ensures one { (s : SurfaceProgram) (d e : SymbolicAgent) → IsSymbolicOf s d → IsSymbolicOf s e → d ≡ e }
 {
     surface_law();
 }
@@ -65,8 +67,8 @@ pub fn clock_law()
     paths_law();
 }
 
-/// A watching that stands in no body of a watching or of a time stops for good: once an output since its start entails its
-/// constraint, no tell that stems from a form inside it is run.
+/// A watching that stands in no body of a watching or of a time stops for good: once an output since its start
+/// entails its constraint, no tell that stems from a form inside it is run.
 pub fn stops_law()
     ensures { (s : SurfaceProgram) (p : CoreProgram) → IsSurface s → IsExpansion s p → IsWellFormed p
         → OnItsTree s StopsForGood p }

@@ -8,7 +8,7 @@ pub returns-clause-one : goal.returns-clause-one
 returns-clause-one c = one_expansion
 
 pub returns-clause-program : goal.returns-clause-program
-returns-clause-program c = λ s p surface (d, sketch, made) few_nodes few_cells. expansion_program s (c.surface_law.ensures s surface) d p made few_nodes few_cells sketch
+returns-clause-program c = λ s p surface (d, symbolic, made) few_nodes few_cells. expansion_program s (c.surface_law.ensures s surface) d p made few_nodes few_cells symbolic
 
 pub returns-clause-names : goal.returns-clause-names
-returns-clause-names c = λ s p surface (d, sketch, made) few_nodes few_cells. expansion_names s (c.surface_law.ensures s surface) d p made few_nodes few_cells sketch
+returns-clause-names c = λ s p surface (d, symbolic, made) few_nodes few_cells. expansion_names s (c.surface_law.ensures s surface) d p made few_nodes few_cells symbolic

@@ -1,4 +1,4 @@
--- The guards and the clocks hold in the sketch, whose constraints are in scope, and so in the program.
+-- The guards and the clocks hold in the symbolic agent, whose constraints are in scope, and so in the program.
 use Rattle.program_lexemes.specs.declared.bytes.TextForm.TheVariants.{Program}
 use Rattle.expansion_laws.proofs.CopiedLeaves.{in_scope_there, stemming_leaves, guarded_leaves, clocked_leaves}
 use Rattle.expansion_laws.proofs.RunTells.{on_tree}

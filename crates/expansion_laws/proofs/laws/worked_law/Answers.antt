@@ -8,19 +8,19 @@ use Rattle.agent_core.specs.Names.{name_of}
 use Rattle.agent_core.specs.Worked.{a_on}
 use Rattle.agent_laws.proofs.Eachs.{each_all}
 use Rattle.tdcc_reader.specs.Trees.{Watch, Time}
-use Rattle.expansion_laws.specs.Table.{on}
+use Rattle.expansion_laws.specs.Table.{signal_on}
 use Rattle.expansion_laws.specs.Origins.{IsAround}
-use Rattle.expansion_laws.specs.WorkedForms.{watching_sketch, watching_core, always_b, later_watched, time_sketch, time_core, next_b, clocked_tell}
+use Rattle.expansion_laws.specs.WorkedForms.{watching_symbolic, watching_core, always_b, later_watched, time_symbolic, time_core, next_b, clocked_tell}
 use Rattle.expansion_laws.proofs.WorkedLeaves.{watching_cells, watching_roots, time_cells, time_roots}
 use Rattle.expansion_laws.proofs.laws.worked_law.Goals as goal
 
 pub returns-clause-watching : goal.returns-clause-watching
 returns-clause-watching c = record {
-  expansion = (watching_sketch, record { tree = Watch always_b a_on; written = refl; sketched = refl }, record { nodes = refl; cells = watching_cells; declared = refl });
-  first = record { leaf = (3, omega arith, refl); ask = on 1; tells = refl; form = 2; stems = inl refl; behind = omega arith; before = omega arith };
+  expansion = (watching_symbolic, record { tree = Watch always_b a_on; written = refl; symbolic = refl }, record { nodes = refl; cells = watching_cells; declared = refl });
+  first = record { leaf = (3, omega arith, refl); ask = signal_on 1; tells = refl; form = 2; stems = inl refl; behind = omega arith; before = omega arith };
   later = record {
     leaf = subst (λ (rs : List Closure). Contains (leaves watching_core rs 1) later_watched) (sym watching_roots) (2, omega arith, refl);
-    ask = on 1;
+    ask = signal_on 1;
     tells = refl;
     form = 2;
     stems = inl refl;
@@ -41,10 +41,10 @@ returns-clause-watching c = record {
 
 pub returns-clause-time : goal.returns-clause-time
 returns-clause-time c = record {
-  expansion = (time_sketch, record { tree = Time next_b a_on; written = refl; sketched = refl }, record { nodes = refl; cells = time_cells; declared = refl });
+  expansion = (time_symbolic, record { tree = Time next_b a_on; written = refl; symbolic = refl }, record { nodes = refl; cells = time_cells; declared = refl });
   inside = record {
     leaf = subst (λ (rs : List Closure). Contains (leaves time_core rs 1) clocked_tell) (sym time_roots) (0, omega arith, refl);
-    ask = on 1;
+    ask = signal_on 1;
     tells = refl;
     form = 2;
     stems = inl refl;
