@@ -71,7 +71,11 @@ fn core_program(alloc: Global, surface: &Surface) -> Result<Program, ExpandFault
     }
 }
 
-/// The core program of a surface.
+/// The core program of a surface, which stays as it is: names and constraints are copied.
+///
+/// A surface of more than 4,096 forms is refused at once. Otherwise nodes are made of the forms from the last one to
+/// the first, and counted as they are made, so a body is not doubled past the limit; cells are counted when all nodes
+/// are made, and named after that.
 ///
 /// # Errors
 ///
