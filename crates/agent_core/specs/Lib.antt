@@ -1,6 +1,7 @@
 pub mod Programs
 pub mod Agents
 pub mod Listing
+pub mod Limits
 pub mod Names
 pub mod WellFormed
 pub mod Scope

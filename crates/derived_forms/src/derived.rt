@@ -1,5 +1,6 @@
 // What the derived forms make of the first symbolic agent that is emitted.
 ghost use Rattle.std.specs.Prelude.{◌≡◌, ◌+◌, ◌≤◌, ◌∷◌, ◌++◌, List, IfErr, OnOk, length};
+ghost use Rattle.agent_core.specs.Limits.{most_nodes};
 ghost use Rattle.std.specs.List.{flat_map};
 ghost use Rattle.expansion_laws.specs.SymbolicAgents.{SymbolicAgent, symbolic_size};
 ghost use Rattle.expansion_laws.specs.Table.{always, clocked, guarded, signal_on, timed, watching, when};
@@ -18,10 +19,10 @@ use std::alloc::AllocError;
 impl Emitter {
     /// Makes the first symbolic agent run at every instant from now on.
     pub(crate) fn always(&mut self) -> Result<(), ExpandFault>
-        requires { length (emitted_nodes self.old) ≤ 4096 }
+        requires { length (emitted_nodes self.old) ≤ most_nodes }
         ensures emitted { (a : SymbolicAgent) (rest : List AFlatNode) → emitted_nodes self.old ≡ flat_nodes a ++ rest
             → OnOk result (emitted_nodes self.new ≡ flat_nodes (always a) ++ rest) }
-        ensures room { OnOk result (length (emitted_nodes self.new) ≤ 4096) }
+        ensures room { OnOk result (length (emitted_nodes self.new) ≤ most_nodes) }
         ensures fault { (a : SymbolicAgent) (rest : List AFlatNode) → emitted_nodes self.old ≡ flat_nodes a ++ rest
             → IfErr result (IsTooLarge (symbolic_size (always a) + length rest)) }
     {
@@ -72,10 +73,10 @@ impl Emitter {
     /// Makes the first symbolic agent wait for the first instant that entails the constraint. The binder is that of
     /// the hidden signal.
     pub(crate) fn when(&mut self, binder: u32, ask: &Constraint) -> Result<(), ExpandFault>
-        requires { length (emitted_nodes self.old) ≤ 4096 }
+        requires { length (emitted_nodes self.old) ≤ most_nodes }
         ensures emitted { (a : SymbolicAgent) (rest : List AFlatNode) → emitted_nodes self.old ≡ flat_nodes a ++ rest
             → OnOk result (emitted_nodes self.new ≡ flat_nodes (when binder ask.now a) ++ rest) }
-        ensures room { OnOk result (length (emitted_nodes self.new) ≤ 4096) }
+        ensures room { OnOk result (length (emitted_nodes self.new) ≤ most_nodes) }
         ensures fault { (a : SymbolicAgent) (rest : List AFlatNode) → emitted_nodes self.old ≡ flat_nodes a ++ rest
             → IfErr result (IsTooLarge (symbolic_size (when binder ask.now a) + length rest)) }
     {
@@ -89,10 +90,10 @@ impl Emitter {
 
     /// Puts a node in front; a tell waits for the signal with this binder to be absent.
     fn put_guarded(&mut self, binder: u32, flat_node: FlatNode) -> Result<(), ExpandFault>
-        requires { length (emitted_nodes self.old) ≤ 4096 }
+        requires { length (emitted_nodes self.old) ≤ most_nodes }
         ensures emitted { OnOk result
             (emitted_nodes self.new ≡ guarded_flat_nodes binder flat_node ++ emitted_nodes self.old) }
-        ensures room { OnOk result (length (emitted_nodes self.new) ≤ 4096) }
+        ensures room { OnOk result (length (emitted_nodes self.new) ≤ most_nodes) }
         ensures fault { IfErr result
             (IsTooLarge (length (guarded_flat_nodes binder flat_node) + length (emitted_nodes self.old))) }
     {
@@ -107,10 +108,10 @@ impl Emitter {
 
     /// Makes each tell of the first symbolic agent wait for the signal with this binder to be absent.
     fn guard(&mut self, binder: u32) -> Result<(), ExpandFault>
-        requires { length (emitted_nodes self.old) ≤ 4096 }
+        requires { length (emitted_nodes self.old) ≤ most_nodes }
         ensures emitted { (a : SymbolicAgent) (rest : List AFlatNode) → emitted_nodes self.old ≡ flat_nodes a ++ rest
             → OnOk result (emitted_nodes self.new ≡ flat_nodes (guarded binder a) ++ rest) }
-        ensures room { OnOk result (length (emitted_nodes self.new) ≤ 4096) }
+        ensures room { OnOk result (length (emitted_nodes self.new) ≤ most_nodes) }
         ensures fault { (a : SymbolicAgent) (rest : List AFlatNode) → emitted_nodes self.old ≡ flat_nodes a ++ rest
             → IfErr result (IsTooLarge (symbolic_size (guarded binder a) + length rest)) }
     {
@@ -124,10 +125,10 @@ impl Emitter {
     /// Makes the first symbolic agent run up to the first instant that entails the constraint. The binder is that of
     /// the hidden signal.
     pub(crate) fn watching(&mut self, binder: u32, ask: &Constraint) -> Result<(), ExpandFault>
-        requires { length (emitted_nodes self.old) ≤ 4096 }
+        requires { length (emitted_nodes self.old) ≤ most_nodes }
         ensures emitted { (a : SymbolicAgent) (rest : List AFlatNode) → emitted_nodes self.old ≡ flat_nodes a ++ rest
             → OnOk result (emitted_nodes self.new ≡ flat_nodes (watching binder ask.now a) ++ rest) }
-        ensures room { OnOk result (length (emitted_nodes self.new) ≤ 4096) }
+        ensures room { OnOk result (length (emitted_nodes self.new) ≤ most_nodes) }
         ensures fault { (a : SymbolicAgent) (rest : List AFlatNode) → emitted_nodes self.old ≡ flat_nodes a ++ rest
             → IfErr result (IsTooLarge (symbolic_size (watching binder ask.now a) + length rest)) }
     {
@@ -147,12 +148,12 @@ impl Emitter {
         ask: &Constraint,
         flat_node: FlatNode,
     ) -> Result<(), ExpandFault>
-        requires { length (emitted_nodes self.old) ≤ 4096 }
+        requires { length (emitted_nodes self.old) ≤ most_nodes }
         ensures emitted { (d : SymbolicAgent) (rest : List AFlatNode) → flat_node ≡ first_flat_node d
             → emitted_nodes self.old
             ≡ flat_map (λ part. flat_nodes (clocked binder ask.now part)) (symbolic_parts d) ++ rest
             → OnOk result (emitted_nodes self.new ≡ flat_nodes (clocked binder ask.now d) ++ rest) }
-        ensures room { OnOk result (length (emitted_nodes self.new) ≤ 4096) }
+        ensures room { OnOk result (length (emitted_nodes self.new) ≤ most_nodes) }
         ensures fault { (d : SymbolicAgent) (rest : List AFlatNode) → flat_node ≡ first_flat_node d
             → emitted_nodes self.old
             ≡ flat_map (λ part. flat_nodes (clocked binder ask.now part)) (symbolic_parts d) ++ rest
@@ -173,10 +174,10 @@ impl Emitter {
 
     /// Puts what the first symbolic agent leaves for later on the clock.
     fn clock(&mut self, binder: u32, ask: &Constraint) -> Result<(), ExpandFault>
-        requires { length (emitted_nodes self.old) ≤ 4096 }
+        requires { length (emitted_nodes self.old) ≤ most_nodes }
         ensures emitted { (a : SymbolicAgent) (rest : List AFlatNode) → emitted_nodes self.old ≡ flat_nodes a ++ rest
             → OnOk result (emitted_nodes self.new ≡ flat_nodes (clocked binder ask.now a) ++ rest) }
-        ensures room { OnOk result (length (emitted_nodes self.new) ≤ 4096) }
+        ensures room { OnOk result (length (emitted_nodes self.new) ≤ most_nodes) }
         ensures fault { (a : SymbolicAgent) (rest : List AFlatNode) → emitted_nodes self.old ≡ flat_nodes a ++ rest
             → IfErr result (IsTooLarge (symbolic_size (clocked binder ask.now a) + length rest)) }
     {
@@ -190,10 +191,10 @@ impl Emitter {
     /// Makes the first symbolic agent run on the instants that entail the constraint. The binder is that of the
     /// hidden signals.
     pub(crate) fn timed(&mut self, binder: u32, ask: &Constraint) -> Result<(), ExpandFault>
-        requires { length (emitted_nodes self.old) ≤ 4096 }
+        requires { length (emitted_nodes self.old) ≤ most_nodes }
         ensures emitted { (a : SymbolicAgent) (rest : List AFlatNode) → emitted_nodes self.old ≡ flat_nodes a ++ rest
             → OnOk result (emitted_nodes self.new ≡ flat_nodes (timed binder ask.now a) ++ rest) }
-        ensures room { OnOk result (length (emitted_nodes self.new) ≤ 4096) }
+        ensures room { OnOk result (length (emitted_nodes self.new) ≤ most_nodes) }
         ensures fault { (a : SymbolicAgent) (rest : List AFlatNode) → emitted_nodes self.old ≡ flat_nodes a ++ rest
             → IfErr result (IsTooLarge (symbolic_size (timed binder ask.now a) + length rest)) }
     {

@@ -1,13 +1,12 @@
 // The symbolic agents that are emitted so far.
 ghost use Rattle.std.specs.Prelude.{◌≡◌, ◌+◌, ◌<◌, ◌≤◌, ◌^◌, [], ◌∷◌, ◌++◌, List, IfErr, IfOk, OnOk, length};
+ghost use Rattle.agent_core.specs.Limits.{most_nodes};
 ghost use Rattle.expansion_laws.specs.SymbolicAgents.{SymbolicAgent};
 
 use crate::fault::ExpandFault;
 use crate::flat_node::FlatNode;
+use agent_core::MAX_NODES;
 use std::alloc::{AllocError, Global};
-
-/// The most nodes that a program may have.
-pub(crate) const MAX_NODES: usize = 4_096;
 
 /// The nodes of symbolic agents that stand behind one another, the last node first.
 #[derive(Debug, Drop)]
@@ -34,7 +33,7 @@ impl Emitter {
     /// Says whether there is room for so many more nodes.
     pub(crate) fn check_room(&self, more: usize) -> Result<(), ExpandFault>
         requires { length (emitted_nodes self.now) + more < 2 ^ 64 }
-        ensures room { OnOk result (length (emitted_nodes self.now) + more ≤ 4096) }
+        ensures room { OnOk result (length (emitted_nodes self.now) + more ≤ most_nodes) }
         ensures fault { IfErr result (IsTooLarge (length (emitted_nodes self.now) + more)) }
     {
         if self.flat_nodes.len() + more > MAX_NODES {
@@ -53,9 +52,9 @@ impl Emitter {
 
     /// Puts a node in front of all others, where there is room for it.
     pub(crate) fn add(&mut self, flat_node: FlatNode) -> Result<(), ExpandFault>
-        requires { length (emitted_nodes self.old) ≤ 4096 }
+        requires { length (emitted_nodes self.old) ≤ most_nodes }
         ensures added { OnOk result (emitted_nodes self.new ≡ flat_node ∷ emitted_nodes self.old) }
-        ensures room { OnOk result (length (emitted_nodes self.old) + 1 ≤ 4096) }
+        ensures room { OnOk result (length (emitted_nodes self.old) + 1 ≤ most_nodes) }
         ensures fault { IfErr result (IsTooLarge (length (emitted_nodes self.old) + 1)) }
     {
         self.check_room(1)?;
@@ -87,7 +86,7 @@ impl Emitter {
 
     /// Takes the first symbolic agent off, and hands out its nodes in preorder.
     pub(crate) fn take_first(&mut self) -> Result<Vec<FlatNode>, AllocError>
-        requires { length (emitted_nodes self.old) ≤ 4096 }
+        requires { length (emitted_nodes self.old) ≤ most_nodes }
         // No node is lost.
         ensures all { IfOk result (λ body. body.items ++ emitted_nodes self.new ≡ emitted_nodes self.old) }
         // What is taken is the first symbolic agent, whole.

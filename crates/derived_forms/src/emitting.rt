@@ -1,5 +1,6 @@
 // The symbolic agent of a surface, emitted from its last form to its first.
 ghost use Rattle.std.specs.Prelude.{◌≡◌, ◌+◌, ◌<◌, ◌≤◌, ◌^◌, ◌++◌, List, IfErr, IfOk, OnOk, length, reverse};
+ghost use Rattle.agent_core.specs.Limits.{most_nodes};
 ghost use Rattle.std.specs.List.{flat_map};
 ghost use Rattle.tdcc_reader.specs.Trees.{Tree, form_listing};
 ghost use Rattle.expansion_laws.specs.Expanding.{symbolic_of};
@@ -20,12 +21,12 @@ use tdcc_reader::Form;
 /// Puts the symbolic agent of a form in front; those of its parts stand there already. So many cells stand before the
 /// hidden ones, and the form has this number.
 fn put_form(emitter: &mut Emitter, form: &Form, cells: u32, number: u32) -> Result<(), ExpandFault>
-    requires room { length (emitted_nodes emitter.old) ≤ 4096 }
+    requires room { length (emitted_nodes emitter.old) ≤ most_nodes }
     requires binders { cells + number < 2 ^ 32 }
     ensures emitted { (t : Tree) (rest : List FlatNode) → form.now ≡ first_form number t
         → emitted_nodes emitter.old ≡ flat_map (subtree_flat_nodes cells) (child_subtrees number t) ++ rest
         → OnOk result (emitted_nodes emitter.new ≡ flat_nodes (symbolic_of cells number t) ++ rest) }
-    ensures room { OnOk result (length (emitted_nodes emitter.new) ≤ 4096) }
+    ensures room { OnOk result (length (emitted_nodes emitter.new) ≤ most_nodes) }
     ensures fault { (t : Tree) (rest : List FlatNode) → form.now ≡ first_form number t
         → emitted_nodes emitter.old ≡ flat_map (subtree_flat_nodes cells) (child_subtrees number t) ++ rest
         → IfErr result (IsTooLarge (symbolic_size (symbolic_of cells number t) + length rest)) }
@@ -53,7 +54,7 @@ pub(crate) fn emit(alloc: Global, forms: &[Form], cells: u32) -> Result<Vec<Flat
     requires { cells + length forms.now < 2 ^ 32 }
     ensures emitted { (t : Tree) → forms.now ≡ form_listing 0 t
         → IfOk result (λ emitted. reverse emitted.items ≡ flat_nodes (symbolic_of cells 0 t)) }
-    ensures room { IfOk result (λ emitted. length emitted.items ≤ 4096) }
+    ensures room { IfOk result (λ emitted. length emitted.items ≤ most_nodes) }
     ensures fault { (t : Tree) → forms.now ≡ form_listing 0 t
         → IfErr result (IsTooLarge (symbolic_size (symbolic_of cells 0 t))) }
 {

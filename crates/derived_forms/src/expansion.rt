@@ -1,5 +1,6 @@
 // The core program of a surface.
 ghost use Rattle.std.specs.Prelude.{◌≡◌, ◌+◌, ◌≤◌, IfErr, IfOk, length, reverse};
+ghost use Rattle.agent_core.specs.Limits.{most_cells, most_nodes};
 ghost use Rattle.agent_core.specs.WellFormed.{IsWellFormed};
 ghost use Rattle.core_text.specs.GoodNames.{HasGoodNames};
 ghost use Rattle.tdcc_reader.specs.Texts.{IsSurface};
@@ -12,19 +13,15 @@ ghost use Rattle.derived_forms.specs.Refusals.{RefusesExpansion};
 ghost use Rattle.derived_forms.specs.declared.fault.ExpandFault as ExpandFault;
 
 use crate::cells::number_cells;
-use crate::emitter::MAX_NODES;
 use crate::emitting::emit;
 use crate::fault::ExpandFault;
 use crate::flat_node::FlatNode;
 use crate::numbering::number_nodes;
 use crate::placing::place_cells;
-use agent_core::Program;
+use agent_core::{MAX_CELLS, MAX_NODES, Program};
 use expansion_laws::{expansion_law, paths_law, sizes_law, stops_law};
 use std::alloc::{AllocError, Global};
 use tdcc_reader::Surface;
-
-/// The most cells that a program may have.
-const MAX_CELLS: usize = 1_024;
 
 /// The binders of the news, in preorder, of nodes that are given with the last one first.
 fn binders_of(alloc: Global, emitted: &[FlatNode]) -> Result<Vec<u32>, AllocError>
@@ -45,10 +42,10 @@ fn core_program(alloc: Global, surface: &Surface) -> Result<Program, ExpandFault
     ensures program { IfOk result IsWellFormed }
     ensures found { IfOk result (IsExpansion surface.now) }
     ensures fault { IfErr result (RefusesExpansion surface.now) }
-    ensures complete { (d : SymbolicAgent) → IsSymbolicOf surface.now d → symbolic_size d ≤ 4096
-        → surface.now.declared + length (binders d) ≤ 1024
+    ensures complete { (d : SymbolicAgent) → IsSymbolicOf surface.now d → symbolic_size d ≤ most_nodes
+        → surface.now.declared + length (binders d) ≤ most_cells
         → IfErr result (λ fault. fault ≡ ExpandFault.Memory) }
-    ensures memory { IfErr result (λ fault. fault ≡ ExpandFault.Memory → length surface.now.forms ≤ 4096) }
+    ensures memory { IfErr result (λ fault. fault ≡ ExpandFault.Memory → length surface.now.forms ≤ most_nodes) }
 {
     expansion_law();
     sizes_law();
@@ -87,8 +84,8 @@ pub fn expand(alloc: Global, surface: &Surface) -> Result<Program, ExpandFault>
     // A refusal is the one that the sizes give.
     ensures fault { IfErr result (RefusesExpansion surface.now) }
     // Where the sizes are within their limits, the program is made.
-    ensures complete { (d : SymbolicAgent) → IsSymbolicOf surface.now d → symbolic_size d ≤ 4096
-        → surface.now.declared + length (binders d) ≤ 1024
+    ensures complete { (d : SymbolicAgent) → IsSymbolicOf surface.now d → symbolic_size d ≤ most_nodes
+        → surface.now.declared + length (binders d) ≤ most_cells
         → IfErr result (λ fault. fault ≡ ExpandFault.Memory) }
     // The names of its cells can be written and read back.
     ensures names { IfOk result HasGoodNames }
@@ -100,7 +97,7 @@ pub fn expand(alloc: Global, surface: &Surface) -> Result<Program, ExpandFault>
     // A watching in no other and in no time stops for good.
     ensures stopped { IfOk result (OnItsTree surface.now StopsForGood) }
     // `Memory` comes only for a surface that has no more forms than a program may have nodes.
-    ensures memory { IfErr result (λ fault. fault ≡ ExpandFault.Memory → length surface.now.forms ≤ 4096) }
+    ensures memory { IfErr result (λ fault. fault ≡ ExpandFault.Memory → length surface.now.forms ≤ most_nodes) }
 {
     expansion_law();
     paths_law();

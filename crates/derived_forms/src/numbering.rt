@@ -1,5 +1,6 @@
 // The nodes of an agent, from the list of them in preorder.
 ghost use Rattle.std.specs.Prelude.{◌≡◌, ◌+◌, ◌<◌, ◌≤◌, ◌^◌, ◌∷◌, ◌++◌, ℕ, suc, List, IfOk, OnOk, length, reverse};
+ghost use Rattle.agent_core.specs.Limits.{most_nodes};
 ghost use Rattle.agent_core.specs.Agents.{Agent};
 ghost use Rattle.agent_core.specs.Listing.{listing, size};
 ghost use Rattle.derived_forms.specs.Numbered.{agent_flat_nodes, first_node, agent_first_flat_node, part_ends};
@@ -46,7 +47,7 @@ pub(crate) fn number_nodes(
     alloc: Global,
     mut flat_nodes: Vec<FlatNode>,
 ) -> Result<Vec<Node>, AllocError>
-    requires { length flat_nodes.items ≤ 4096 }
+    requires { length flat_nodes.items ≤ most_nodes }
     ensures { (a : Agent) → flat_nodes.items ≡ agent_flat_nodes a → IfOk result (λ nodes. nodes.items ≡ listing 0 a) }
 {
     let mut ends = Vec::new(alloc);

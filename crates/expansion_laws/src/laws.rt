@@ -1,6 +1,7 @@
 // The laws of expansions, each proved as the contract of a function that calls the law of surfaces alone.
 ghost use Rattle.std.specs.Prelude.{◌≡◌, ◌+◌, ◌≤◌, length};
 ghost use Rattle.agent_core.specs.WellFormed.{IsWellFormed};
+ghost use Rattle.agent_core.specs.Limits.{most_cells, most_nodes};
 ghost use Rattle.agent_core.specs.Programs.{CoreProgram};
 ghost use Rattle.core_text.specs.GoodNames.{HasGoodNames};
 ghost use Rattle.tdcc_reader.specs.Surfaces.{SurfaceProgram};
@@ -20,9 +21,9 @@ pub fn expansion_law()
     ensures some { (s : SurfaceProgram) → IsSurface s → (p : CoreProgram) × IsExpansion s p }
     ensures one { (s : SurfaceProgram) (p q : CoreProgram) → IsExpansion s p → IsExpansion s q → p ≡ q }
     ensures program { (s : SurfaceProgram) (p : CoreProgram) → IsSurface s → IsExpansion s p
-        → length p.nodes ≤ 4096 → length p.cells ≤ 1024 → IsWellFormed p }
+        → length p.nodes ≤ most_nodes → length p.cells ≤ most_cells → IsWellFormed p }
     ensures names { (s : SurfaceProgram) (p : CoreProgram) → IsSurface s → IsExpansion s p
-        → length p.nodes ≤ 4096 → length p.cells ≤ 1024 → HasGoodNames p }
+        → length p.nodes ≤ most_nodes → length p.cells ≤ most_cells → HasGoodNames p }
 {
     surface_law();
 }
