@@ -1,7 +1,7 @@
-pub mod Limits
 pub mod Programs
 pub mod Agents
 pub mod Listing
+pub mod Limits
 pub mod Names
 pub mod CellNames
 pub mod WellFormed

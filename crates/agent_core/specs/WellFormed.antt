@@ -8,6 +8,7 @@ use Rattle.agent_core.specs.declared.node.Node.TheVariants as nodes
 use Rattle.agent_core.specs.Agents.{Agent, Constraint, Skip, Tell, Then, Else, Par, New, Hence, Next, agent_at}
 use Rattle.agent_core.specs.Programs.{CoreProgram}
 use Rattle.agent_core.specs.Listing.{IsListing}
+use Rattle.agent_core.specs.Limits.{most_nodes, most_cells, most_declared_cells}
 
 -- the cell of a new node
 abbrev pub cell_of : Node → Option ℕ
@@ -54,9 +55,9 @@ Scoped p locals (Next a) = Scoped p locals a
 
 -- the limits on the numbers of nodes and cells
 pub record IsWithinLimits (p : CoreProgram) : Type 0 where
-  pub few_nodes : length p.nodes ≤ 4096
-  pub few_cells : length p.cells ≤ 1024
-  pub few_declared : p.declared ≤ 256
+  pub few_nodes : length p.nodes ≤ most_nodes
+  pub few_cells : length p.cells ≤ most_cells
+  pub few_declared : p.declared ≤ most_declared_cells
   pub within : p.declared ≤ length p.cells
 
 -- the nodes are one tree; the cells of the new nodes are the local cells, in order; each constraint is in scope; and the limits are kept

@@ -4,6 +4,7 @@ ghost use Rattle.agent_core.specs.Listing.{IsListing};
 ghost use Rattle.agent_core.specs.WellFormed.{IsAmong, IsInScope, IsConstraint, IsWithinLimits, Scoped, IsWellFormed, cell_of, count_up};
 ghost use Rattle.agent_core.specs.Drafts.{locals_of, core_of};
 
+use crate::limits::{MAX_CELLS, MAX_DECLARED, MAX_NODES};
 use crate::node::{CellDecl, Constraint, Node};
 use crate::preorder::is_preorder;
 use token_system::{Token, fits};
@@ -114,9 +115,9 @@ impl Candidate<'_> {
     fn is_within_limits(self) -> bool
         ensures { IsTrue result ↔ IsWithinLimits (core_of self.entry) }
     {
-        self.nodes.len() <= 4096
-            && self.cells.len() <= 1024
-            && self.declared <= 256
+        self.nodes.len() <= MAX_NODES
+            && self.cells.len() <= MAX_CELLS
+            && self.declared as usize <= MAX_DECLARED
             && self.declared as usize <= self.cells.len()
     }
 

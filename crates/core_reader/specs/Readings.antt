@@ -3,6 +3,7 @@ use Rattle.std.specs.Prelude.{◌≡◌, ◌≢◌, ◌⊎◌, ℕ, ◌<◌, ◌
 use Rattle.program_grammar.specs.Phrases.{ProgramPhrase as Phrase}
 use Rattle.agent_core.specs.Agents.{Agent}
 use Rattle.agent_core.specs.Programs.{CoreProgram}
+use Rattle.agent_core.specs.Limits.{most_nodes, most_cells}
 use Rattle.agent_core.specs.Listing.{listing}
 use Rattle.tdcc_reader.specs.declared.dialect.Dialect.TheVariants as dialect
 use Rattle.tdcc_reader.specs.declared.fault.ReadFault.{ReadFault}
@@ -23,8 +24,8 @@ pub record IsCoreOf (phrase : Phrase) (p : CoreProgram) : Type 0 where
 -- the core text is this phrase, nothing refuses it, and it has at most 4,096 forms and 1,024 cells
 pub record AcceptsCore (text : List ℕ) (phrase : Phrase) : Type 0 where
   pub accepts : Accepts dialect.Core text phrase
-  pub few_nodes : form_count (program_tree phrase) ≤ 4096
-  pub few_cells : length (program_cells phrase) ≤ 1024
+  pub few_nodes : form_count (program_tree phrase) ≤ most_nodes
+  pub few_cells : length (program_cells phrase) ≤ most_cells
 
 -- the text is this core program
 abbrev pub IsCoreText : List ℕ → CoreProgram → Type 0
@@ -32,8 +33,10 @@ IsCoreText text p = (phrase : Phrase) × AcceptsCore text phrase × IsCoreOf phr
 
 -- the text is refused as a core text; or it is accepted, and has too many forms, or else too many cells
 abbrev pub RefusesCore : List ℕ → ReadFault → Type 0
-RefusesCore text TooManyNodes = (phrase : Phrase) × Accepts dialect.Core text phrase × (4096 < form_count (program_tree phrase))
-RefusesCore text TooManyCells = (phrase : Phrase) × Accepts dialect.Core text phrase × (form_count (program_tree phrase) ≤ 4096) × (1024 < length (program_cells phrase))
+RefusesCore text TooManyNodes = (phrase : Phrase) × Accepts dialect.Core text phrase × (most_nodes < form_count (program_tree phrase))
+RefusesCore text TooManyCells =
+    (phrase : Phrase) × Accepts dialect.Core text phrase
+    × (form_count (program_tree phrase) ≤ most_nodes) × (most_cells < length (program_cells phrase))
 RefusesCore text fault = Refuses dialect.Core text fault
 
 -- the text is a core program, or it is refused for a reason that is not out of memory

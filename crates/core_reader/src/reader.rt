@@ -5,15 +5,9 @@ ghost use Rattle.tdcc_reader.specs.declared.fault.ReadFault as ReadFault;
 ghost use Rattle.core_reader.specs.Readings.{AcceptsCore, IsCoreOf, IsCoreText, RefusesCore};
 
 use crate::nodes::nodes_of;
-use agent_core::Program;
+use agent_core::{MAX_CELLS, MAX_NODES, Program};
 use std::alloc::Global;
 use tdcc_reader::{Dialect, ReadFault, read_text};
-
-/// The most nodes that a program may have.
-const MAX_NODES: usize = 4_096;
-
-/// The most cells that a program may have.
-const MAX_CELLS: usize = 1_024;
 
 /// Reads a core text: the program that it is.
 ///

@@ -1,6 +1,7 @@
 //! The numbers that a table gives to cells.
 ghost use Rattle.std.specs.Prelude.{◌≡◌, ◌<◌, slice_index};
 ghost use Rattle.agent_core.specs.WellFormed.{IsWellFormed};
+ghost use Rattle.agent_core.specs.Limits.{most_cells};
 ghost use Rattle.agent_laws.specs.Ways.{AreBelow};
 ghost use Rattle.denotation_laws.specs.Dues as dues;
 
@@ -9,7 +10,7 @@ use agent_core::{Constraint, Levels, Program};
 /// The number of the cell, or 0 where the table has none.
 fn level_of(levels: &Levels, cell: u32) -> u32
     ensures number { result ≡ slice_index levels.now cell }
-    ensures small { result < 1024 }
+    ensures small { result < most_cells }
 {
     match levels.list().get(cell as usize) {
         Some(level) => *level,

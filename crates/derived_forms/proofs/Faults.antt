@@ -1,5 +1,5 @@
 -- What a refusal of a part says of the whole.
-use Rattle.std.proofs.Common.{◌≡◌, ℕ, ◌≤◌, ◌<◌, ap, subst, sym, arith, Result, Err}
+use Rattle.std.proofs.Common.{◌≡◌, ℕ, ◌≤◌, subst, sym, arith, Result}
 use Rattle.std.specs.Prelude.{IsErrAnd, IfErr}
 use Rattle.std.proofs.lemmas.Result.{err_from_is_err_and, IfErr-weaker}
 use Rattle.derived_forms.specs.declared.fault.ExpandFault.{ExpandFault}

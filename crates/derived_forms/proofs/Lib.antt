@@ -2,13 +2,13 @@ pub mod Forests
 pub mod Backwards
 pub mod Stacks
 pub mod Faults
-pub mod Sketched
+pub mod FlatLists
 pub mod DerivedForms
 pub mod Taken
 pub mod Clocked
-pub mod GrownForms
-pub mod GrownSteps
+pub mod EmittedForms
+pub mod EmittedSteps
 pub mod NumberedNodes
 pub mod PlacedWorks
-pub mod Marked
+pub mod BinderLists
 pub mod Expanded

@@ -1,5 +1,5 @@
 -- Agents with the numbers of their nodes, found from the last node to the first.
-use Rattle.std.proofs.Common.{◌≡◌, ℕ, suc, ◌+◌, ◌≤◌, List, [], ◌∷◌, ◌++◌, length, refl, ap, sym, ◌∙◌, subst, arith}
+use Rattle.std.proofs.Common.{◌≡◌, ℕ, suc, ◌+◌, List, [], ◌∷◌, ◌++◌, length, refl, ap, sym, ◌∙◌, subst, arith}
 use Rattle.std.specs.Prelude.{map}
 use Rattle.std.specs.List.{flat_map}
 use Rattle.std.proofs.lemmas.List.{append-nil, length_push, map-append}
@@ -7,9 +7,9 @@ use Rattle.agent_core.specs.Agents.{Agent, Skip, Tell, Then, Else, Par, New, Hen
 use Rattle.agent_core.specs.Listing.{listing, size}
 use Rattle.agent_core.specs.declared.node.Node.{Node}
 use Rattle.agent_core.specs.declared.node.Node.TheVariants as nodes
-use Rattle.derived_forms.specs.declared.piece.Piece.{Piece}
-use Rattle.derived_forms.specs.declared.piece.Piece.TheVariants as piece
-use Rattle.derived_forms.specs.Numbered.{agent_pieces, first_node, first_piece, part_ends}
+use Rattle.derived_forms.specs.declared.flat_node.FlatNode.{FlatNode}
+use Rattle.derived_forms.specs.declared.flat_node.FlatNode.TheVariants as flat_node
+use Rattle.derived_forms.specs.Numbered.{agent_flat_nodes, first_node, agent_first_flat_node, part_ends}
 use Rattle.derived_forms.proofs.Forests.{Follows, IsRow, Splits, behind, behind_all, row-behind}
 use Rattle.derived_forms.proofs.Backwards.{IsBack, back_start, back_step, back_end}
 
@@ -22,11 +22,11 @@ abbrev pub numbered : ℕ → Agent → Numbered
 numbered n a = record { number = n; agent = a }
 
 -- its nodes without numbers and with them, its parts, and where it ends
-abbrev pub list_of : Numbered → List Piece
-list_of d = agent_pieces d.agent
+abbrev pub list_of : Numbered → List FlatNode
+list_of d = agent_flat_nodes d.agent
 
-abbrev pub head_of : Numbered → Piece
-head_of d = first_piece d.agent
+abbrev pub head_of : Numbered → FlatNode
+head_of d = agent_first_flat_node d.agent
 
 abbrev pub nodes_of : Numbered → List Node
 nodes_of d = listing d.number d.agent
@@ -56,18 +56,18 @@ parts_of d = agent_parts d.number d.agent
 one_part : {X : Type 0} (x : X) (l : List X) → x ∷ l ≡ x ∷ (l ++ [])
 one_part {X} x l = ap (λ (m : List X). x ∷ m) (sym (append-nil l))
 
-pieces-split : (n : ℕ) (a : Agent) → agent_pieces a ≡ first_piece a ∷ flat_map list_of (agent_parts n a)
-pieces-split n Skip = refl
-pieces-split n (Tell c) = refl
-pieces-split n (Then c a) = one_part (piece.Then c) (agent_pieces a)
-pieces-split n (Else c a) = one_part (piece.Else c) (agent_pieces a)
-pieces-split n (Par a b) = ap (λ (m : List Piece). piece.Par ∷ (agent_pieces a ++ m)) (sym (append-nil (agent_pieces b)))
-pieces-split n (New cell a) = one_part (piece.New cell) (agent_pieces a)
-pieces-split n (Hence a) = one_part piece.Hence (agent_pieces a)
-pieces-split n (Next a) = one_part piece.Next (agent_pieces a)
+flat_nodes-split : (n : ℕ) (a : Agent) → agent_flat_nodes a ≡ agent_first_flat_node a ∷ flat_map list_of (agent_parts n a)
+flat_nodes-split n Skip = refl
+flat_nodes-split n (Tell c) = refl
+flat_nodes-split n (Then c a) = one_part (flat_node.Then c) (agent_flat_nodes a)
+flat_nodes-split n (Else c a) = one_part (flat_node.Else c) (agent_flat_nodes a)
+flat_nodes-split n (Par a b) = ap (λ (m : List FlatNode). flat_node.Par ∷ (agent_flat_nodes a ++ m)) (sym (append-nil (agent_flat_nodes b)))
+flat_nodes-split n (New cell a) = one_part (flat_node.New cell) (agent_flat_nodes a)
+flat_nodes-split n (Hence a) = one_part flat_node.Hence (agent_flat_nodes a)
+flat_nodes-split n (Next a) = one_part flat_node.Next (agent_flat_nodes a)
 
 list-split : Splits parts_of list_of head_of
-list-split d = pieces-split d.number d.agent
+list-split d = flat_nodes-split d.number d.agent
 
 nodes-split : (n : ℕ) (a : Agent) → listing n a ≡ first_node n a ∷ flat_map nodes_of (agent_parts n a)
 nodes-split n Skip = refl
@@ -103,27 +103,27 @@ parts_end n (Hence a) = refl
 parts_end n (Next a) = refl
 
 -- These nodes are to come; the agents behind them have these nodes, and end at these numbers.
-pub record IsNumbered (a : Agent) (front : List Piece) (ends : List ℕ) (done : List Node) : Type 0 where
+pub record IsNumbered (a : Agent) (front : List FlatNode) (ends : List ℕ) (done : List Node) : Type 0 where
   pub back : IsBack parts_of list_of nodes_of (numbered 0 a ∷ []) [] front done
   pub ending : ends ≡ map end_of (behind parts_of (length front) (numbered 0 a ∷ []))
 
-pub number_start : (a : Agent) (front : List Piece) (ends : List ℕ) (done : List Node) → front ≡ agent_pieces a → ends ≡ [] → done ≡ [] → IsNumbered a front ends done
+pub number_start : (a : Agent) (front : List FlatNode) (ends : List ℕ) (done : List Node) → front ≡ agent_flat_nodes a → ends ≡ [] → done ≡ [] → IsNumbered a front ends done
 number_start a front ends done all none empty =
-    let e : front ≡ flat_map list_of (numbered 0 a ∷ []) = all ∙ sym (append-nil (agent_pieces a)) in record {
+    let e : front ≡ flat_map list_of (numbered 0 a ∷ []) = all ∙ sym (append-nil (agent_flat_nodes a)) in record {
       back = back_start parts_of list_of head_of nodes_of list-split (numbered 0 a ∷ []) [] front done e empty;
       ending = none ∙ ap (map end_of) (sym (behind_all parts_of list_of head_of list-split (length front) (numbered 0 a ∷ []) (ap length e)));
     }
 
 -- the agent that begins at the last node to come, which has number n, and where those behind it end
-pub record Numbers (a : Agent) (n : ℕ) (front : List Piece) (p : Piece) (ends : List ℕ) (done : List Node) : Type 0 where
+pub record Numbers (a : Agent) (n : ℕ) (front : List FlatNode) (p : FlatNode) (ends : List ℕ) (done : List Node) : Type 0 where
   pub agent : Agent
   pub later : List ℕ
-  pub first : p ≡ first_piece agent
+  pub first : p ≡ agent_first_flat_node agent
   pub parts : ends ≡ part_ends (suc n) agent ++ later
   pub next : (new : List ℕ) (node : Node) → node ≡ first_node n agent → new ≡ (n + size agent) ∷ later → IsNumbered a front new (node ∷ done)
 
 -- the same, where the agent has its own number
-numbers_at : (a : Agent) (n : ℕ) (front : List Piece) (p : Piece) (ends : List ℕ) (done later : List Node) (d : Numbered) (others : List Numbered) → number_of d ≡ n → p ≡ head_of d → behind parts_of (length front) (numbered 0 a ∷ []) ≡ d ∷ others → ends ≡ map end_of (parts_of d ++ others) → done ≡ flat_map nodes_of (parts_of d) ++ later → ((new : List Node) → new ≡ nodes_of d ++ later → IsBack parts_of list_of nodes_of (numbered 0 a ∷ []) [] front new) → Numbers a n front p ends done
+numbers_at : (a : Agent) (n : ℕ) (front : List FlatNode) (p : FlatNode) (ends : List ℕ) (done later : List Node) (d : Numbered) (others : List Numbered) → number_of d ≡ n → p ≡ head_of d → behind parts_of (length front) (numbered 0 a ∷ []) ≡ d ∷ others → ends ≡ map end_of (parts_of d ++ others) → done ≡ flat_map nodes_of (parts_of d) ++ later → ((new : List Node) → new ≡ nodes_of d ++ later → IsBack parts_of list_of nodes_of (numbered 0 a ∷ []) [] front new) → Numbers a n front p ends done
 numbers_at a n front p ends done later d others e first here behind_it made next = record {
   agent = d.agent;
   later = map end_of others;
@@ -142,7 +142,7 @@ numbers_at a n front p ends done later d others e first here behind_it made next
   };
 }
 
-pub number_step : (a : Agent) (n : ℕ) (whole front : List Piece) (p : Piece) (ends : List ℕ) (done : List Node) → n ≡ length front → whole ≡ front ++ p ∷ [] → IsNumbered a whole ends done → Numbers a n front p ends done
+pub number_step : (a : Agent) (n : ℕ) (whole front : List FlatNode) (p : FlatNode) (ends : List ℕ) (done : List Node) → n ≡ length front → whole ≡ front ++ p ∷ [] → IsNumbered a whole ends done → Numbers a n front p ends done
 number_step a n whole front p ends done e popped is =
     let b = back_step parts_of list_of head_of nodes_of list-split (numbered 0 a ∷ []) [] whole front p done popped is.back in
     let row = subst (IsRow number_of size_of (length front)) b.here (row-behind parts_of number_of size_of parts_follow (length front) (numbered 0 a ∷ []) (refl, tt)) in
@@ -150,7 +150,7 @@ number_step a n whole front p ends done e popped is =
     numbers_at a n front p ends done b.later b.tree b.others (row.0 ∙ sym e) b.node b.here
     (is.ending ∙ ap (λ (k : ℕ). map end_of (behind parts_of k (numbered 0 a ∷ []))) long ∙ ap (map end_of) b.opened) b.parts_made b.next
 
-pub number_end : (a : Agent) (front : List Piece) (ends : List ℕ) (done : List Node) → front ≡ [] → IsNumbered a front ends done → done ≡ listing 0 a
+pub number_end : (a : Agent) (front : List FlatNode) (ends : List ℕ) (done : List Node) → front ≡ [] → IsNumbered a front ends done → done ≡ listing 0 a
 number_end a front ends done none is =
     back_end parts_of list_of nodes_of (numbered 0 a ∷ []) [] front done none is.back
     ∙ append-nil (flat_map nodes_of (numbered 0 a ∷ []))

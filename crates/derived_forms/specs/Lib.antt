@@ -1,7 +1,6 @@
-pub mod Pieces
-pub mod Growths
-pub mod Growing
+pub mod FlatNodes
+pub mod Emitters
+pub mod FormParts
 pub mod Placing
 pub mod Numbered
 pub mod Refusals
-pub mod Promises

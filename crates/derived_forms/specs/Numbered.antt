@@ -4,30 +4,30 @@ use Rattle.agent_core.specs.Agents.{Agent, Skip, Tell, Then, Else, Par, New, Hen
 use Rattle.agent_core.specs.Listing.{size}
 use Rattle.agent_core.specs.declared.node.Node.{Node}
 use Rattle.agent_core.specs.declared.node.Node.TheVariants as nodes
-use Rattle.derived_forms.specs.declared.piece.Piece.{Piece}
-use Rattle.derived_forms.specs.declared.piece.Piece.TheVariants as piece
+use Rattle.derived_forms.specs.declared.flat_node.FlatNode.{FlatNode}
+use Rattle.derived_forms.specs.declared.flat_node.FlatNode.TheVariants as flat_node
 
--- the first node of an agent; a new has its cell for a mark
-abbrev pub first_piece : Agent → Piece
-first_piece Skip = piece.Skip
-first_piece (Tell c) = piece.Tell c
-first_piece (Then c a) = piece.Then c
-first_piece (Else c a) = piece.Else c
-first_piece (Par a b) = piece.Par
-first_piece (New cell a) = piece.New cell
-first_piece (Hence a) = piece.Hence
-first_piece (Next a) = piece.Next
+-- the first node of an agent; a new has its cell for a binder
+abbrev pub agent_first_flat_node : Agent → FlatNode
+agent_first_flat_node Skip = flat_node.Skip
+agent_first_flat_node (Tell c) = flat_node.Tell c
+agent_first_flat_node (Then c a) = flat_node.Then c
+agent_first_flat_node (Else c a) = flat_node.Else c
+agent_first_flat_node (Par a b) = flat_node.Par
+agent_first_flat_node (New cell a) = flat_node.New cell
+agent_first_flat_node (Hence a) = flat_node.Hence
+agent_first_flat_node (Next a) = flat_node.Next
 
 -- the nodes of an agent
-abbrev pub agent_pieces : Agent → List Piece
-agent_pieces Skip = piece.Skip ∷ []
-agent_pieces (Tell c) = piece.Tell c ∷ []
-agent_pieces (Then c a) = piece.Then c ∷ agent_pieces a
-agent_pieces (Else c a) = piece.Else c ∷ agent_pieces a
-agent_pieces (Par a b) = piece.Par ∷ (agent_pieces a ++ agent_pieces b)
-agent_pieces (New cell a) = piece.New cell ∷ agent_pieces a
-agent_pieces (Hence a) = piece.Hence ∷ agent_pieces a
-agent_pieces (Next a) = piece.Next ∷ agent_pieces a
+abbrev pub agent_flat_nodes : Agent → List FlatNode
+agent_flat_nodes Skip = flat_node.Skip ∷ []
+agent_flat_nodes (Tell c) = flat_node.Tell c ∷ []
+agent_flat_nodes (Then c a) = flat_node.Then c ∷ agent_flat_nodes a
+agent_flat_nodes (Else c a) = flat_node.Else c ∷ agent_flat_nodes a
+agent_flat_nodes (Par a b) = flat_node.Par ∷ (agent_flat_nodes a ++ agent_flat_nodes b)
+agent_flat_nodes (New cell a) = flat_node.New cell ∷ agent_flat_nodes a
+agent_flat_nodes (Hence a) = flat_node.Hence ∷ agent_flat_nodes a
+agent_flat_nodes (Next a) = flat_node.Next ∷ agent_flat_nodes a
 
 -- the first node of an agent, with number n
 abbrev pub first_node : ℕ → Agent → Node

@@ -1,4 +1,4 @@
-// The cells of a sketch's program.
+// The cells of a symbolic agent's program.
 ghost use Rattle.std.specs.Prelude.{◌≡◌, ◌+◌, ◌<◌, ◌^◌, ◌++◌, IfOk, length, slice_get, take, unwrap_or};
 ghost use Rattle.expansion_laws.specs.Numbering.{cells_from, hidden};
 
@@ -34,38 +34,38 @@ fn hidden(alloc: Global, number: u32) -> Result<CellDecl, AllocError>
     })
 }
 
-/// The cell with this mark and number: a copy of the surface's cell, or a hidden one.
+/// The cell with this binder and number: a copy of the surface's cell, or a hidden one.
 fn cell_of(
     alloc: Global,
     cells: &[CellDecl],
-    mark: u32,
+    binder: u32,
     number: u32,
 ) -> Result<CellDecl, AllocError>
-    ensures { IfOk result (λ decl. decl ≡ unwrap_or (slice_get cells.now mark) (hidden number)) }
+    ensures { IfOk result (λ decl. decl ≡ unwrap_or (slice_get cells.now binder) (hidden number)) }
 {
-    match cells.get(mark as usize) {
+    match cells.get(binder as usize) {
         Some(decl) => cell_copy(alloc, decl),
         None => hidden(alloc, number),
     }
 }
 
-/// The declared cells of a surface with these cells, and then one for each mark.
+/// The declared cells of a surface with these cells, and then one for each binder.
 pub(crate) fn number_cells(
     alloc: Global,
     cells: &[CellDecl],
     declared: u32,
-    marks: &[u32],
+    binders: &[u32],
 ) -> Result<Vec<CellDecl>, AllocError>
-    requires { declared + length marks.now < 2 ^ 32 }
-    ensures { IfOk result (λ made. made.items ≡ take declared cells.now ++ cells_from cells.now declared marks.now) }
+    requires { declared + length binders.now < 2 ^ 32 }
+    ensures { IfOk result (λ made. made.items ≡ take declared cells.now ++ cells_from cells.now declared binders.now) }
 {
     let mut made = Vec::new(alloc);
     for decl in cells.iter().take(declared as usize) {
         made.push(cell_copy(alloc, decl)?)?;
     }
     let mut number = declared;
-    for mark in marks {
-        made.push(cell_of(alloc, cells, *mark, number)?)?;
+    for binder in binders {
+        made.push(cell_of(alloc, cells, *binder, number)?)?;
         number += 1;
     }
     Ok(made)

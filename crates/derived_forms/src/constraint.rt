@@ -1,6 +1,6 @@
 // Constraints of the nodes that an expansion adds.
 ghost use Rattle.std.specs.Prelude.{◌≡◌, IfOk};
-ghost use Rattle.expansion_laws.specs.Table.{on};
+ghost use Rattle.expansion_laws.specs.Table.{signal_on};
 
 use agent_core::Constraint;
 use std::alloc::{AllocError, Global};
@@ -13,9 +13,9 @@ pub(crate) fn constraint_copy(alloc: Global, ask: &Constraint) -> Result<Constra
     Ok(Constraint::make(ask.list().to_vec(alloc)?))
 }
 
-/// The constraint that the signal with this mark is on.
-pub(crate) fn on(alloc: Global, mark: u32) -> Result<Constraint, AllocError>
-    ensures { IfOk result (λ ask. ask ≡ on mark) }
+/// The constraint that the signal with this binder is on.
+pub(crate) fn signal_on(alloc: Global, binder: u32) -> Result<Constraint, AllocError>
+    ensures { IfOk result (λ ask. ask ≡ signal_on binder) }
 {
-    Ok(Constraint::make(vec![in alloc; (mark, Token::On)]?))
+    Ok(Constraint::make(vec![in alloc; (binder, Token::On)]?))
 }

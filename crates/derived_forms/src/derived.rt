@@ -1,184 +1,204 @@
-// What the derived forms make of the first sketch that is grown.
+// What the derived forms make of the first symbolic agent that is emitted.
 ghost use Rattle.std.specs.Prelude.{◌≡◌, ◌+◌, ◌≤◌, ◌∷◌, ◌++◌, List, IfErr, OnOk, length};
+ghost use Rattle.agent_core.specs.Limits.{most_nodes};
 ghost use Rattle.std.specs.List.{flat_map};
-ghost use Rattle.expansion_laws.specs.Sketches.{Sketch, size};
-ghost use Rattle.expansion_laws.specs.Table.{always, clocked, guarded, on, timed, watching, when};
-ghost use Rattle.derived_forms.specs.Growths.{nodes_of};
-ghost use Rattle.derived_forms.specs.Pieces.{first, guarded_piece, parts, pieces};
+ghost use Rattle.expansion_laws.specs.SymbolicAgents.{SymbolicAgent, symbolic_size};
+ghost use Rattle.expansion_laws.specs.Table.{always, clocked, guarded, signal_on, timed, watching, when};
+ghost use Rattle.derived_forms.specs.Emitters.{emitted_nodes};
+ghost use Rattle.derived_forms.specs.FlatNodes.{first_flat_node, guarded_flat_nodes, symbolic_parts, flat_nodes};
 ghost use Rattle.derived_forms.specs.Refusals.{IsTooLarge};
-ghost use Rattle.derived_forms.specs.declared.piece.Piece.{Piece as APiece};
+ghost use Rattle.derived_forms.specs.declared.flat_node.FlatNode.{FlatNode as AFlatNode};
 
-use crate::constraint::{constraint_copy, on};
+use crate::constraint::{constraint_copy, signal_on};
+use crate::emitter::Emitter;
 use crate::fault::ExpandFault;
-use crate::growth::Growth;
-use crate::piece::Piece;
+use crate::flat_node::FlatNode;
 use agent_core::Constraint;
 use std::alloc::AllocError;
 
-impl Growth {
-    /// Makes the first sketch run at every instant from now on.
+impl Emitter {
+    /// Makes the first symbolic agent run at every instant from now on.
     pub(crate) fn always(&mut self) -> Result<(), ExpandFault>
-        requires { length (nodes_of self.old) ≤ 4096 }
-        ensures grown { (a : Sketch) (rest : List APiece) → nodes_of self.old ≡ pieces a ++ rest
-            → OnOk result (nodes_of self.new ≡ pieces (always a) ++ rest) }
-        ensures room { OnOk result (length (nodes_of self.new) ≤ 4096) }
-        ensures fault { (a : Sketch) (rest : List APiece) → nodes_of self.old ≡ pieces a ++ rest
-            → IfErr result (IsTooLarge (size (always a) + length rest)) }
+        requires { length (emitted_nodes self.old) ≤ most_nodes }
+        ensures emitted { (a : SymbolicAgent) (rest : List AFlatNode) → emitted_nodes self.old ≡ flat_nodes a ++ rest
+            → OnOk result (emitted_nodes self.new ≡ flat_nodes (always a) ++ rest) }
+        ensures room { OnOk result (length (emitted_nodes self.new) ≤ most_nodes) }
+        ensures fault { (a : SymbolicAgent) (rest : List AFlatNode) → emitted_nodes self.old ≡ flat_nodes a ++ rest
+            → IfErr result (IsTooLarge (symbolic_size (always a) + length rest)) }
     {
         let body = self.take_first()?;
         self.check_room(2 * body.len() + 2)?;
         self.put_copy(&body)?;
-        self.put(Piece::Hence)?;
+        self.put(FlatNode::Hence)?;
         self.put_back(body)?;
-        self.put(Piece::Par)?;
+        self.put(FlatNode::Par)?;
         Ok(())
     }
 
-    /// Puts this in front: once the constraint holds, the agent with these nodes is started where the signal with this mark is
-    /// not on, and the signal is on from the next instant on.
-    fn put_start(&mut self, mark: u32, ask: &Constraint, body: Vec<Piece>) -> Result<(), AllocError>
-        ensures { OnOk result (nodes_of self.new ≡ Piece.Then ask.now ∷ Piece.Par ∷ Piece.Else (on mark)
-            ∷ (body.items ++ (Piece.Hence ∷ Piece.Tell (on mark) ∷ nodes_of self.old))) }
+    /// Puts this in front: once the constraint holds, the agent with these nodes is started where the signal with
+    /// this binder is not on, and the signal is on from the next instant on.
+    fn put_start(
+        &mut self,
+        binder: u32,
+        ask: &Constraint,
+        body: Vec<FlatNode>,
+    ) -> Result<(), AllocError>
+        ensures { OnOk result (emitted_nodes self.new ≡ FlatNode.Then ask.now ∷ FlatNode.Par
+            ∷ FlatNode.Else (signal_on binder) ∷ (body.items
+            ++ (FlatNode.Hence ∷ FlatNode.Tell (signal_on binder) ∷ emitted_nodes self.old))) }
     {
-        self.put(Piece::Tell(on(self.alloc, mark)?))?;
-        self.put(Piece::Hence)?;
+        self.put(FlatNode::Tell(signal_on(self.alloc, binder)?))?;
+        self.put(FlatNode::Hence)?;
         self.put_back(body)?;
-        self.put(Piece::Else(on(self.alloc, mark)?))?;
-        self.put(Piece::Par)?;
-        self.put(Piece::Then(constraint_copy(self.alloc, ask)?))?;
+        self.put(FlatNode::Else(signal_on(self.alloc, binder)?))?;
+        self.put(FlatNode::Par)?;
+        self.put(FlatNode::Then(constraint_copy(self.alloc, ask)?))?;
         Ok(())
     }
 
-    /// Puts this in front: once the constraint holds, the signal with this mark is on from now on.
-    fn put_stop(&mut self, mark: u32, ask: &Constraint) -> Result<(), AllocError>
-        ensures { OnOk result (nodes_of self.new ≡ Piece.Then ask.now ∷ Piece.Par ∷ Piece.Tell (on mark) ∷ Piece.Hence
-            ∷ Piece.Tell (on mark) ∷ nodes_of self.old) }
+    /// Puts this in front: once the constraint holds, the signal with this binder is on from now on.
+    fn put_stop(&mut self, binder: u32, ask: &Constraint) -> Result<(), AllocError>
+        ensures { OnOk result (emitted_nodes self.new ≡ FlatNode.Then ask.now ∷ FlatNode.Par
+            ∷ FlatNode.Tell (signal_on binder)
+            ∷ FlatNode.Hence ∷ FlatNode.Tell (signal_on binder) ∷ emitted_nodes self.old) }
     {
-        self.put(Piece::Tell(on(self.alloc, mark)?))?;
-        self.put(Piece::Hence)?;
-        self.put(Piece::Tell(on(self.alloc, mark)?))?;
-        self.put(Piece::Par)?;
-        self.put(Piece::Then(constraint_copy(self.alloc, ask)?))?;
+        self.put(FlatNode::Tell(signal_on(self.alloc, binder)?))?;
+        self.put(FlatNode::Hence)?;
+        self.put(FlatNode::Tell(signal_on(self.alloc, binder)?))?;
+        self.put(FlatNode::Par)?;
+        self.put(FlatNode::Then(constraint_copy(self.alloc, ask)?))?;
         Ok(())
     }
 
-    /// Makes the first sketch wait for the first instant that entails the constraint. The mark is that of the hidden signal.
-    pub(crate) fn when(&mut self, mark: u32, ask: &Constraint) -> Result<(), ExpandFault>
-        requires { length (nodes_of self.old) ≤ 4096 }
-        ensures grown { (a : Sketch) (rest : List APiece) → nodes_of self.old ≡ pieces a ++ rest
-            → OnOk result (nodes_of self.new ≡ pieces (when mark ask.now a) ++ rest) }
-        ensures room { OnOk result (length (nodes_of self.new) ≤ 4096) }
-        ensures fault { (a : Sketch) (rest : List APiece) → nodes_of self.old ≡ pieces a ++ rest
-            → IfErr result (IsTooLarge (size (when mark ask.now a) + length rest)) }
+    /// Makes the first symbolic agent wait for the first instant that entails the constraint. The binder is that of
+    /// the hidden signal.
+    pub(crate) fn when(&mut self, binder: u32, ask: &Constraint) -> Result<(), ExpandFault>
+        requires { length (emitted_nodes self.old) ≤ most_nodes }
+        ensures emitted { (a : SymbolicAgent) (rest : List AFlatNode) → emitted_nodes self.old ≡ flat_nodes a ++ rest
+            → OnOk result (emitted_nodes self.new ≡ flat_nodes (when binder ask.now a) ++ rest) }
+        ensures room { OnOk result (length (emitted_nodes self.new) ≤ most_nodes) }
+        ensures fault { (a : SymbolicAgent) (rest : List AFlatNode) → emitted_nodes self.old ≡ flat_nodes a ++ rest
+            → IfErr result (IsTooLarge (symbolic_size (when binder ask.now a) + length rest)) }
     {
         let body = self.take_first()?;
         self.check_room(2 * body.len() + 12)?;
-        self.put_start(mark, ask, body)?;
+        self.put_start(binder, ask, body)?;
         self.always()?;
-        self.add(Piece::New { mark })?;
+        self.add(FlatNode::New { binder })?;
         Ok(())
     }
 
-    /// Puts a node in front; a tell waits for the signal with this mark to be absent.
-    fn put_guarded(&mut self, mark: u32, piece: Piece) -> Result<(), ExpandFault>
-        requires { length (nodes_of self.old) ≤ 4096 }
-        ensures grown { OnOk result (nodes_of self.new ≡ guarded_piece mark piece ++ nodes_of self.old) }
-        ensures room { OnOk result (length (nodes_of self.new) ≤ 4096) }
-        ensures fault { IfErr result (IsTooLarge (length (guarded_piece mark piece) + length (nodes_of self.old))) }
+    /// Puts a node in front; a tell waits for the signal with this binder to be absent.
+    fn put_guarded(&mut self, binder: u32, flat_node: FlatNode) -> Result<(), ExpandFault>
+        requires { length (emitted_nodes self.old) ≤ most_nodes }
+        ensures emitted { OnOk result
+            (emitted_nodes self.new ≡ guarded_flat_nodes binder flat_node ++ emitted_nodes self.old) }
+        ensures room { OnOk result (length (emitted_nodes self.new) ≤ most_nodes) }
+        ensures fault { IfErr result
+            (IsTooLarge (length (guarded_flat_nodes binder flat_node) + length (emitted_nodes self.old))) }
     {
-        match piece {
-            Piece::Tell(told) => {
-                self.add(Piece::Tell(told))?;
-                self.add(Piece::Else(on(self.alloc, mark)?))
+        match flat_node {
+            FlatNode::Tell(told) => {
+                self.add(FlatNode::Tell(told))?;
+                self.add(FlatNode::Else(signal_on(self.alloc, binder)?))
             }
             other => self.add(other),
         }
     }
 
-    /// Makes each tell of the first sketch wait for the signal with this mark to be absent.
-    fn guard(&mut self, mark: u32) -> Result<(), ExpandFault>
-        requires { length (nodes_of self.old) ≤ 4096 }
-        ensures grown { (a : Sketch) (rest : List APiece) → nodes_of self.old ≡ pieces a ++ rest
-            → OnOk result (nodes_of self.new ≡ pieces (guarded mark a) ++ rest) }
-        ensures room { OnOk result (length (nodes_of self.new) ≤ 4096) }
-        ensures fault { (a : Sketch) (rest : List APiece) → nodes_of self.old ≡ pieces a ++ rest
-            → IfErr result (IsTooLarge (size (guarded mark a) + length rest)) }
+    /// Makes each tell of the first symbolic agent wait for the signal with this binder to be absent.
+    fn guard(&mut self, binder: u32) -> Result<(), ExpandFault>
+        requires { length (emitted_nodes self.old) ≤ most_nodes }
+        ensures emitted { (a : SymbolicAgent) (rest : List AFlatNode) → emitted_nodes self.old ≡ flat_nodes a ++ rest
+            → OnOk result (emitted_nodes self.new ≡ flat_nodes (guarded binder a) ++ rest) }
+        ensures room { OnOk result (length (emitted_nodes self.new) ≤ most_nodes) }
+        ensures fault { (a : SymbolicAgent) (rest : List AFlatNode) → emitted_nodes self.old ≡ flat_nodes a ++ rest
+            → IfErr result (IsTooLarge (symbolic_size (guarded binder a) + length rest)) }
     {
         let mut body = self.take_first()?;
-        while let Some(piece) = body.pop() {
-            self.put_guarded(mark, piece)?;
+        while let Some(flat_node) = body.pop() {
+            self.put_guarded(binder, flat_node)?;
         }
         Ok(())
     }
 
-    /// Makes the first sketch run up to the first instant that entails the constraint. The mark is that of the hidden signal.
-    pub(crate) fn watching(&mut self, mark: u32, ask: &Constraint) -> Result<(), ExpandFault>
-        requires { length (nodes_of self.old) ≤ 4096 }
-        ensures grown { (a : Sketch) (rest : List APiece) → nodes_of self.old ≡ pieces a ++ rest
-            → OnOk result (nodes_of self.new ≡ pieces (watching mark ask.now a) ++ rest) }
-        ensures room { OnOk result (length (nodes_of self.new) ≤ 4096) }
-        ensures fault { (a : Sketch) (rest : List APiece) → nodes_of self.old ≡ pieces a ++ rest
-            → IfErr result (IsTooLarge (size (watching mark ask.now a) + length rest)) }
+    /// Makes the first symbolic agent run up to the first instant that entails the constraint. The binder is that of
+    /// the hidden signal.
+    pub(crate) fn watching(&mut self, binder: u32, ask: &Constraint) -> Result<(), ExpandFault>
+        requires { length (emitted_nodes self.old) ≤ most_nodes }
+        ensures emitted { (a : SymbolicAgent) (rest : List AFlatNode) → emitted_nodes self.old ≡ flat_nodes a ++ rest
+            → OnOk result (emitted_nodes self.new ≡ flat_nodes (watching binder ask.now a) ++ rest) }
+        ensures room { OnOk result (length (emitted_nodes self.new) ≤ most_nodes) }
+        ensures fault { (a : SymbolicAgent) (rest : List AFlatNode) → emitted_nodes self.old ≡ flat_nodes a ++ rest
+            → IfErr result (IsTooLarge (symbolic_size (watching binder ask.now a) + length rest)) }
     {
-        self.guard(mark)?;
+        self.guard(binder)?;
         self.check_room(12)?;
-        self.put_stop(mark, ask)?;
+        self.put_stop(binder, ask)?;
         self.always()?;
-        self.add(Piece::Par)?;
-        self.add(Piece::New { mark })?;
+        self.add(FlatNode::Par)?;
+        self.add(FlatNode::New { binder })?;
         Ok(())
     }
 
     /// Puts a node in front of its parts, which are on the clock; what it leaves for later is put on the clock too.
-    fn put_clocked(&mut self, mark: u32, ask: &Constraint, piece: Piece) -> Result<(), ExpandFault>
-        requires { length (nodes_of self.old) ≤ 4096 }
-        ensures grown { (d : Sketch) (rest : List APiece) → piece ≡ first d
-            → nodes_of self.old ≡ flat_map (λ part. pieces (clocked mark ask.now part)) (parts d) ++ rest
-            → OnOk result (nodes_of self.new ≡ pieces (clocked mark ask.now d) ++ rest) }
-        ensures room { OnOk result (length (nodes_of self.new) ≤ 4096) }
-        ensures fault { (d : Sketch) (rest : List APiece) → piece ≡ first d
-            → nodes_of self.old ≡ flat_map (λ part. pieces (clocked mark ask.now part)) (parts d) ++ rest
-            → IfErr result (IsTooLarge (size (clocked mark ask.now d) + length rest)) }
+    fn put_clocked(
+        &mut self,
+        binder: u32,
+        ask: &Constraint,
+        flat_node: FlatNode,
+    ) -> Result<(), ExpandFault>
+        requires { length (emitted_nodes self.old) ≤ most_nodes }
+        ensures emitted { (d : SymbolicAgent) (rest : List AFlatNode) → flat_node ≡ first_flat_node d
+            → emitted_nodes self.old
+            ≡ flat_map (λ part. flat_nodes (clocked binder ask.now part)) (symbolic_parts d) ++ rest
+            → OnOk result (emitted_nodes self.new ≡ flat_nodes (clocked binder ask.now d) ++ rest) }
+        ensures room { OnOk result (length (emitted_nodes self.new) ≤ most_nodes) }
+        ensures fault { (d : SymbolicAgent) (rest : List AFlatNode) → flat_node ≡ first_flat_node d
+            → emitted_nodes self.old
+            ≡ flat_map (λ part. flat_nodes (clocked binder ask.now part)) (symbolic_parts d) ++ rest
+            → IfErr result (IsTooLarge (symbolic_size (clocked binder ask.now d) + length rest)) }
     {
-        match piece {
-            Piece::Next => {
-                self.when(mark, ask)?;
-                self.add(Piece::Next)
+        match flat_node {
+            FlatNode::Next => {
+                self.when(binder, ask)?;
+                self.add(FlatNode::Next)
             }
-            Piece::Hence => {
-                self.add(Piece::Then(constraint_copy(self.alloc, ask)?))?;
-                self.add(Piece::Hence)
+            FlatNode::Hence => {
+                self.add(FlatNode::Then(constraint_copy(self.alloc, ask)?))?;
+                self.add(FlatNode::Hence)
             }
             other => self.add(other),
         }
     }
 
-    /// Puts what the first sketch leaves for later on the clock.
-    fn clock(&mut self, mark: u32, ask: &Constraint) -> Result<(), ExpandFault>
-        requires { length (nodes_of self.old) ≤ 4096 }
-        ensures grown { (a : Sketch) (rest : List APiece) → nodes_of self.old ≡ pieces a ++ rest
-            → OnOk result (nodes_of self.new ≡ pieces (clocked mark ask.now a) ++ rest) }
-        ensures room { OnOk result (length (nodes_of self.new) ≤ 4096) }
-        ensures fault { (a : Sketch) (rest : List APiece) → nodes_of self.old ≡ pieces a ++ rest
-            → IfErr result (IsTooLarge (size (clocked mark ask.now a) + length rest)) }
+    /// Puts what the first symbolic agent leaves for later on the clock.
+    fn clock(&mut self, binder: u32, ask: &Constraint) -> Result<(), ExpandFault>
+        requires { length (emitted_nodes self.old) ≤ most_nodes }
+        ensures emitted { (a : SymbolicAgent) (rest : List AFlatNode) → emitted_nodes self.old ≡ flat_nodes a ++ rest
+            → OnOk result (emitted_nodes self.new ≡ flat_nodes (clocked binder ask.now a) ++ rest) }
+        ensures room { OnOk result (length (emitted_nodes self.new) ≤ most_nodes) }
+        ensures fault { (a : SymbolicAgent) (rest : List AFlatNode) → emitted_nodes self.old ≡ flat_nodes a ++ rest
+            → IfErr result (IsTooLarge (symbolic_size (clocked binder ask.now a) + length rest)) }
     {
         let mut body = self.take_first()?;
-        while let Some(piece) = body.pop() {
-            self.put_clocked(mark, ask, piece)?;
+        while let Some(flat_node) = body.pop() {
+            self.put_clocked(binder, ask, flat_node)?;
         }
         Ok(())
     }
 
-    /// Makes the first sketch run on the instants that entail the constraint. The mark is that of the hidden signals.
-    pub(crate) fn timed(&mut self, mark: u32, ask: &Constraint) -> Result<(), ExpandFault>
-        requires { length (nodes_of self.old) ≤ 4096 }
-        ensures grown { (a : Sketch) (rest : List APiece) → nodes_of self.old ≡ pieces a ++ rest
-            → OnOk result (nodes_of self.new ≡ pieces (timed mark ask.now a) ++ rest) }
-        ensures room { OnOk result (length (nodes_of self.new) ≤ 4096) }
-        ensures fault { (a : Sketch) (rest : List APiece) → nodes_of self.old ≡ pieces a ++ rest
-            → IfErr result (IsTooLarge (size (timed mark ask.now a) + length rest)) }
+    /// Makes the first symbolic agent run on the instants that entail the constraint. The binder is that of the
+    /// hidden signals.
+    pub(crate) fn timed(&mut self, binder: u32, ask: &Constraint) -> Result<(), ExpandFault>
+        requires { length (emitted_nodes self.old) ≤ most_nodes }
+        ensures emitted { (a : SymbolicAgent) (rest : List AFlatNode) → emitted_nodes self.old ≡ flat_nodes a ++ rest
+            → OnOk result (emitted_nodes self.new ≡ flat_nodes (timed binder ask.now a) ++ rest) }
+        ensures room { OnOk result (length (emitted_nodes self.new) ≤ most_nodes) }
+        ensures fault { (a : SymbolicAgent) (rest : List AFlatNode) → emitted_nodes self.old ≡ flat_nodes a ++ rest
+            → IfErr result (IsTooLarge (symbolic_size (timed binder ask.now a) + length rest)) }
     {
-        self.clock(mark, ask)?;
-        self.when(mark, ask)
+        self.clock(binder, ask)?;
+        self.when(binder, ask)
     }
 }

@@ -4,12 +4,12 @@
 mod cells;
 mod constraint;
 mod derived;
+mod emitter;
+mod emitting;
 mod expansion;
 mod fault;
-mod growing;
-mod growth;
+mod flat_node;
 mod numbering;
-mod piece;
 mod placing;
 #[cfg(test)]
 mod tests;

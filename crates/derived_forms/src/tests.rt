@@ -151,3 +151,15 @@ fn a_chain_of_2000_agents_side_by_side_is_expanded(rt: HostRuntime) -> Result<()
     assert_eq!(rt; program(alloc, &text)?.nodes().len(), 3999);
     Ok(())
 }
+
+#[test]
+fn a_refusal_is_shown_by_its_reason(rt: HostRuntime) -> Result<(), Fail> {
+    let alloc = rt.alloc();
+    let nodes = format!(in alloc; "{}", ExpandFault::TooManyNodes)?;
+    assert_eq!(rt; nodes.as_str(), "over 4096 nodes");
+    let cells = format!(in alloc; "{}", ExpandFault::TooManyCells)?;
+    assert_eq!(rt; cells.as_str(), "over 1024 cells");
+    let memory = format!(in alloc; "{}", ExpandFault::Memory)?;
+    assert_eq!(rt; memory.as_str(), "out of memory");
+    Ok(())
+}

@@ -19,8 +19,10 @@ pub mod Leading
 pub mod Stopping
 pub mod Starting
 pub mod Spots
-pub mod NewMarks
+pub mod NewBinders
 pub mod FreeForms
 pub mod WatchedLeaves
 pub mod StoppedLeaves
 pub mod StoppedRuns
+pub mod WorkedLeaves
+pub mod RunTells

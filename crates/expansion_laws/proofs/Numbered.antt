@@ -1,4 +1,4 @@
--- Where a part of a sketch stands in its program: its nodes, the origins of these, the marks of its cells, and the news around it.
+-- Where a part of a symbolic agent stands in its program: its nodes, the origins of these, the binders of its cells, and the news around it.
 use Rattle.std.proofs.Common.{◌≡◌, ℕ, suc, ◌+◌, ◌<◌, ◌≤◌, List, [], ◌∷◌, length, Some, refl, sym, ap, subst, arith, length-append, inl, inr}
 use Rattle.std.specs.Prelude.{Option, slice_get}
 use Rattle.agent_core.specs.declared.node.Node.TheVariants as nodes
@@ -11,8 +11,8 @@ use Rattle.agent_core.specs.Names.{depth_of}
 use Rattle.agent_core.proofs.Standing.{StandsAt, stands-itself, stands-head, stands-tail, stands-left, stands-right}
 use Rattle.agent_core.proofs.ListingTrees.{listed_tree, root_tree}
 use Rattle.agent_core.proofs.Places.{Place, Place-goes_down, root_place, depth_of-place}
-use Rattle.expansion_laws.specs.Sketches.{Sketch, Skip, Tell, Then, Else, Par, New, Hence, Next, origins, marks}
-use Rattle.expansion_laws.specs.Numbering.{Placed, placed, agent_of, ask_of}
+use Rattle.expansion_laws.specs.SymbolicAgents.{SymbolicAgent, Skip, Tell, Then, Else, Par, New, Hence, Next, origins, binders}
+use Rattle.expansion_laws.specs.Numbering.{Binding, binding, bound_agent, bound_constraint}
 use Rattle.expansion_laws.proofs.Walks.{cells_of}
 
 -- the new of this cell stands around the nodes from k on, so many, and so many news stand around it
@@ -44,83 +44,83 @@ narrower p k i size part from to (cell ∷ cells) h =
     (record { new = o.new; body = o.body; found = o.found; deep = o.deep; behind = omega arith; inside = omega arith }, narrower p k i size part from to cells h.1)
 
 -- the part stands from node k on, its cells from number n on
-pub record IsNumbered (p : CoreProgram) (os : List (Option ℕ)) (ms : List ℕ) (scope : List Placed) (k n : ℕ) (d : Sketch) : Type 0 where
-  pub place : Place p.nodes k (cells_of scope) (agent_of scope n d)
+pub record IsNumbered (p : CoreProgram) (os : List (Option ℕ)) (ms : List ℕ) (scope : List Binding) (k n : ℕ) (d : SymbolicAgent) : Type 0 where
+  pub place : Place p.nodes k (cells_of scope) (bound_agent scope n d)
   pub from : StandsAt (Option ℕ) os k (origins d)
-  pub marked : StandsAt ℕ ms n (marks d)
-  pub over : AreOver p k (core.size (agent_of scope n d)) (cells_of scope)
+  pub bound : StandsAt ℕ ms n (binders d)
+  pub over : AreOver p k (core.size (bound_agent scope n d)) (cells_of scope)
 
 -- a part has an origin for each node
-pub length-origins : (scope : List Placed) (n : ℕ) (d : Sketch) → length (origins d) ≡ core.size (agent_of scope n d)
+pub length-origins : (scope : List Binding) (n : ℕ) (d : SymbolicAgent) → length (origins d) ≡ core.size (bound_agent scope n d)
 length-origins scope n (Skip o) = refl
 length-origins scope n (Tell o c) = refl
 length-origins scope n (Then o c a) = ap suc (length-origins scope n a)
 length-origins scope n (Else o c a) = ap suc (length-origins scope n a)
 length-origins scope n (Par o l r) =
     let left = length-origins scope n l in
-    let right = length-origins scope (n + length (marks l)) r in
+    let right = length-origins scope (n + length (binders l)) r in
     omega (arith, length-append (origins l) (origins r))
-length-origins scope n (New o mark a) = ap suc (length-origins (placed mark n ∷ scope) (suc n) a)
+length-origins scope n (New o binder a) = ap suc (length-origins (binding binder n ∷ scope) (suc n) a)
 length-origins scope n (Hence o a) = ap suc (length-origins scope n a)
 length-origins scope n (Next o a) = ap suc (length-origins scope n a)
 
 module _ (p : CoreProgram) (os : List (Option ℕ)) (ms : List ℕ) where
-  abbrev IsPart : List Placed → ℕ → ℕ → Sketch → Type 0
+  abbrev IsPart : List Binding → ℕ → ℕ → SymbolicAgent → Type 0
   IsPart scope k n d = IsNumbered p os ms scope k n d
 
   -- the only part of a node that is no new
-  one_part : (scope : List Placed) (k n : ℕ) (d a : Sketch) (o : Option ℕ) → Place p.nodes (suc k) (cells_of scope) (agent_of scope n a) → core.size (agent_of scope n d) ≡ suc (core.size (agent_of scope n a))
-      → origins d ≡ o ∷ origins a → marks d ≡ marks a → IsPart scope k n d → IsPart scope (suc k) n a
-  one_part scope k n d a o place long from marked h = record {
+  one_part : (scope : List Binding) (k n : ℕ) (d a : SymbolicAgent) (o : Option ℕ) → Place p.nodes (suc k) (cells_of scope) (bound_agent scope n a) → core.size (bound_agent scope n d) ≡ suc (core.size (bound_agent scope n a))
+      → origins d ≡ o ∷ origins a → binders d ≡ binders a → IsPart scope k n d → IsPart scope (suc k) n a
+  one_part scope k n d a o place long from bound h = record {
     place = place;
     from = stands-tail (subst (StandsAt (Option ℕ) os k) from h.from);
-    marked = subst (StandsAt ℕ ms n) marked h.marked;
-    over = narrower p k (suc k) (core.size (agent_of scope n d)) (core.size (agent_of scope n a)) (omega arith) (omega arith) (cells_of scope) h.over;
+    bound = subst (StandsAt ℕ ms n) bound h.bound;
+    over = narrower p k (suc k) (core.size (bound_agent scope n d)) (core.size (bound_agent scope n a)) (omega arith) (omega arith) (cells_of scope) h.over;
   }
 
-  pub then_part : (scope : List Placed) (k n : ℕ) (o : Option ℕ) (c : Constraint) (a : Sketch) → IsPart scope k n (Then o c a) → IsPart scope (suc k) n a
-  then_part scope k n o c a h = one_part scope k n (Then o c a) a o ((Place-goes_down p.nodes).then_body k (cells_of scope) (ask_of scope c) (agent_of scope n a) h.place) refl refl refl h
+  pub then_part : (scope : List Binding) (k n : ℕ) (o : Option ℕ) (c : Constraint) (a : SymbolicAgent) → IsPart scope k n (Then o c a) → IsPart scope (suc k) n a
+  then_part scope k n o c a h = one_part scope k n (Then o c a) a o ((Place-goes_down p.nodes).then_body k (cells_of scope) (bound_constraint scope c) (bound_agent scope n a) h.place) refl refl refl h
 
-  pub else_part : (scope : List Placed) (k n : ℕ) (o : Option ℕ) (c : Constraint) (a : Sketch) → IsPart scope k n (Else o c a) → IsPart scope (suc k) n a
-  else_part scope k n o c a h = one_part scope k n (Else o c a) a o ((Place-goes_down p.nodes).else_body k (cells_of scope) (ask_of scope c) (agent_of scope n a) h.place) refl refl refl h
+  pub else_part : (scope : List Binding) (k n : ℕ) (o : Option ℕ) (c : Constraint) (a : SymbolicAgent) → IsPart scope k n (Else o c a) → IsPart scope (suc k) n a
+  else_part scope k n o c a h = one_part scope k n (Else o c a) a o ((Place-goes_down p.nodes).else_body k (cells_of scope) (bound_constraint scope c) (bound_agent scope n a) h.place) refl refl refl h
 
-  pub hence_part : (scope : List Placed) (k n : ℕ) (o : Option ℕ) (a : Sketch) → IsPart scope k n (Hence o a) → IsPart scope (suc k) n a
-  hence_part scope k n o a h = one_part scope k n (Hence o a) a o ((Place-goes_down p.nodes).hence_body k (cells_of scope) (agent_of scope n a) h.place) refl refl refl h
+  pub hence_part : (scope : List Binding) (k n : ℕ) (o : Option ℕ) (a : SymbolicAgent) → IsPart scope k n (Hence o a) → IsPart scope (suc k) n a
+  hence_part scope k n o a h = one_part scope k n (Hence o a) a o ((Place-goes_down p.nodes).hence_body k (cells_of scope) (bound_agent scope n a) h.place) refl refl refl h
 
-  pub next_part : (scope : List Placed) (k n : ℕ) (o : Option ℕ) (a : Sketch) → IsPart scope k n (Next o a) → IsPart scope (suc k) n a
-  next_part scope k n o a h = one_part scope k n (Next o a) a o ((Place-goes_down p.nodes).next_body k (cells_of scope) (agent_of scope n a) h.place) refl refl refl h
+  pub next_part : (scope : List Binding) (k n : ℕ) (o : Option ℕ) (a : SymbolicAgent) → IsPart scope k n (Next o a) → IsPart scope (suc k) n a
+  next_part scope k n o a h = one_part scope k n (Next o a) a o ((Place-goes_down p.nodes).next_body k (cells_of scope) (bound_agent scope n a) h.place) refl refl refl h
 
-  pub left_part : (scope : List Placed) (k n : ℕ) (o : Option ℕ) (l r : Sketch) → IsPart scope k n (Par o l r) → IsPart scope (suc k) n l
+  pub left_part : (scope : List Binding) (k n : ℕ) (o : Option ℕ) (l r : SymbolicAgent) → IsPart scope k n (Par o l r) → IsPart scope (suc k) n l
   left_part scope k n o l r h =
-      let x = agent_of scope n l in
-      let y = agent_of scope (n + length (marks l)) r in
+      let x = bound_agent scope n l in
+      let y = bound_agent scope (n + length (binders l)) r in
       record {
         place = (Place-goes_down p.nodes).left k (cells_of scope) x y h.place;
         from = stands-left (origins l) (origins r) (stands-tail h.from);
-        marked = stands-left (marks l) (marks r) h.marked;
+        bound = stands-left (binders l) (binders r) h.bound;
         over = narrower p k (suc k) (suc (core.size x + core.size y)) (core.size x) (omega arith) (omega arith) (cells_of scope) h.over;
       }
 
-  pub right_part : (scope : List Placed) (k n : ℕ) (o : Option ℕ) (l r : Sketch) → IsPart scope k n (Par o l r) → IsPart scope (suc k + core.size (agent_of scope n l)) (n + length (marks l)) r
+  pub right_part : (scope : List Binding) (k n : ℕ) (o : Option ℕ) (l r : SymbolicAgent) → IsPart scope k n (Par o l r) → IsPart scope (suc k + core.size (bound_agent scope n l)) (n + length (binders l)) r
   right_part scope k n o l r h =
-      let x = agent_of scope n l in
-      let y = agent_of scope (n + length (marks l)) r in
+      let x = bound_agent scope n l in
+      let y = bound_agent scope (n + length (binders l)) r in
       let long = length-origins scope n l in
       record {
         place = (Place-goes_down p.nodes).right k (cells_of scope) x y h.place;
         from = stands-right (origins l) (origins r) (stands-tail h.from) (suc k + core.size x) (omega arith);
-        marked = stands-right (marks l) (marks r) h.marked (n + length (marks l)) refl;
+        bound = stands-right (binders l) (binders r) h.bound (n + length (binders l)) refl;
         over = narrower p k (suc k + core.size x) (suc (core.size x + core.size y)) (core.size y) (omega arith) (omega arith) (cells_of scope) h.over;
       }
 
-  pub new_part : (scope : List Placed) (k n : ℕ) (o : Option ℕ) (mark : ℕ) (a : Sketch) → IsPart scope k n (New o mark a) → IsPart (placed mark n ∷ scope) (suc k) (suc n) a
-  new_part scope k n o mark a h =
-      let x = agent_of (placed mark n ∷ scope) (suc n) a in
+  pub new_part : (scope : List Binding) (k n : ℕ) (o : Option ℕ) (binder : ℕ) (a : SymbolicAgent) → IsPart scope k n (New o binder a) → IsPart (binding binder n ∷ scope) (suc k) (suc n) a
+  new_part scope k n o binder a h =
+      let x = bound_agent (binding binder n ∷ scope) (suc n) a in
       let long : core.size (agent_at p.nodes k) ≡ suc (core.size x) = ap core.size (listed_tree p.nodes k (agent.New n x) h.place.listed) in
       record {
         place = (Place-goes_down p.nodes).new_body k (cells_of scope) n x h.place;
         from = stands-tail h.from;
-        marked = stands-tail h.marked;
+        bound = stands-tail h.bound;
         over = (
           record {
             new = k;
@@ -134,11 +134,11 @@ module _ (p : CoreProgram) (os : List (Option ℕ)) (ms : List ℕ) where
         );
       }
 
--- the whole sketch stands at the root
-pub root_part : (p : CoreProgram) (ms : List ℕ) (n : ℕ) (d : Sketch) → p.nodes ≡ core.listing 0 (agent_of [] n d) → StandsAt ℕ ms n (marks d) → IsNumbered p (origins d) ms [] 0 n d
-root_part p ms n d listed marked = record {
-  place = subst (λ (a : Agent). Place p.nodes 0 [] a) (root_tree p.nodes (agent_of [] n d, listed)) (root_place p.nodes (agent_of [] n d, listed));
+-- the whole symbolic agent stands at the root
+pub root_part : (p : CoreProgram) (ms : List ℕ) (n : ℕ) (d : SymbolicAgent) → p.nodes ≡ core.listing 0 (bound_agent [] n d) → StandsAt ℕ ms n (binders d) → IsNumbered p (origins d) ms [] 0 n d
+root_part p ms n d listed bound = record {
+  place = subst (λ (a : Agent). Place p.nodes 0 [] a) (root_tree p.nodes (bound_agent [] n d, listed)) (root_place p.nodes (bound_agent [] n d, listed));
   from = stands-itself refl;
-  marked = marked;
+  bound = bound;
   over = tt;
 }

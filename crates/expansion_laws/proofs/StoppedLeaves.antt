@@ -28,11 +28,11 @@ use Rattle.agent_laws.proofs.Eachs.{Each-map}
 use Rattle.tdcc_reader.specs.Surfaces.{SurfaceProgram}
 use Rattle.tdcc_reader.specs.Trees.{Watch}
 use Rattle.surface_laws.specs.Surfaces.{bare, new_cells}
-use Rattle.expansion_laws.specs.Sketches.{Sketch, Tell, Then, Par, Hence, marks}
-use Rattle.expansion_laws.specs.Numbering.{Placed, placed, cell_of, ask_of, agent_of}
-use Rattle.expansion_laws.specs.Table.{on, always, guarded}
-use Rattle.expansion_laws.specs.Expanding.{sketch_of}
-use Rattle.expansion_laws.specs.Origins.{cell_marks, copied}
+use Rattle.expansion_laws.specs.SymbolicAgents.{SymbolicAgent, Tell, Then, Par, Hence, binders}
+use Rattle.expansion_laws.specs.Numbering.{Binding, binding, bound_cell, bound_constraint, bound_agent}
+use Rattle.expansion_laws.specs.Table.{signal_on, always, guarded}
+use Rattle.expansion_laws.specs.Expanding.{symbolic_of}
+use Rattle.expansion_laws.specs.Origins.{cell_binders, copied}
 use Rattle.expansion_laws.proofs.Walks.{Way, way, cells_of, Reads, reads_more, reads_first, opens_same, watch_added}
 use Rattle.expansion_laws.proofs.Stemming.{Has, has_own}
 use Rattle.expansion_laws.proofs.Enclosing.{IsBelow}
@@ -41,8 +41,8 @@ use Rattle.expansion_laws.proofs.CopiedLeaves.{counted, name_same}
 use Rattle.expansion_laws.proofs.Members.{all_in}
 use Rattle.expansion_laws.proofs.Leading.{both_observe}
 use Rattle.expansion_laws.proofs.Stopping.{once, stays_on}
-use Rattle.expansion_laws.proofs.NewMarks.{sketch_marks}
-use Rattle.expansion_laws.proofs.Spots.{Trail, marks_of, inside, under, beside, At, Nowhere, not_at, at_new, at_par}
+use Rattle.expansion_laws.proofs.NewBinders.{symbolic_binders}
+use Rattle.expansion_laws.proofs.Spots.{Trail, binders_of, inside, under, beside, At, Nowhere, not_at, at_new, at_par}
 use Rattle.expansion_laws.proofs.FreeForms.{Aim, Found}
 use Rattle.expansion_laws.proofs.WatchedLeaves.{Waits, waits}
 
@@ -67,17 +67,17 @@ not_run p v l b ask k h = go (runs p v l) refl
     go false e = refl
     go true e = absurd (true_false (sym (all_in (allows p v) (Negative b ask) l.path e k) ∙ ap not (h e)))
 
--- a new of another mark changes nothing for a constraint
-pub ask_under : (k n : ℕ) (scope : List Placed) (c : Constraint) → Each (λ (pair : ℕ × Token). pair.0 < k) c → ask_of (placed k n ∷ scope) c ≡ ask_of scope c
+-- a new of another binder changes nothing for a constraint
+pub ask_under : (k n : ℕ) (scope : List Binding) (c : Constraint) → Each (λ (pair : ℕ × Token). pair.0 < k) c → bound_constraint (binding k n ∷ scope) c ≡ bound_constraint scope c
 ask_under k n scope [] h = refl
 ask_under k n scope (pair ∷ c) h =
     let lt = h.0 in
-    ap (λ (b : Bool). (if b then n else cell_of scope pair.0, pair.1) ∷ ask_of (placed k n ∷ scope) c) (ne_eqb k pair.0 (λ e. omega arith))
-    ∙ ap (λ (ask : Constraint). (cell_of scope pair.0, pair.1) ∷ ask) (ask_under k n scope c h.1)
+    ap (λ (b : Bool). (if b then n else bound_cell scope pair.0, pair.1) ∷ bound_constraint (binding k n ∷ scope) c) (ne_eqb k pair.0 (λ e. omega arith))
+    ∙ ap (λ (ask : Constraint). (bound_cell scope pair.0, pair.1) ∷ ask) (ask_under k n scope c h.1)
 
--- a declared cell has its own mark
-pub own_mark : (s : SurfaceProgram) (d : Sketch) (k : ℕ) → k < s.declared → slice_get (cell_marks s d) k ≡ Some k
-own_mark s d k lt = counted 0 s.declared k (marks d) lt ∙ ap Some (omega arith)
+-- a declared cell has its own binder
+pub own_binder : (s : SurfaceProgram) (d : SymbolicAgent) (k : ℕ) → k < s.declared → slice_get (cell_binders s d) k ≡ Some k
+own_binder s d k lt = counted 0 s.declared k (binders d) lt ∙ ap Some (omega arith)
 
 -- what is in scope is a cell of the program
 pub cells_below : (q : CoreProgram) (k : ℕ) (locals : List ℕ) → length q.cells ≤ k → (c : Constraint) → AreInScope q locals c → Each (λ (pair : ℕ × Token). pair.0 < k) c
@@ -86,75 +86,75 @@ cells_below q k locals le (pair ∷ c) h = let lt = slice_get_within q.cells pai
 
 -- a copy of a watching from which a leaf comes
 module _ (x : Trail) (y : Aim x) (f : Found x y) where
-  -- the number of the watching's hidden cell, and its mark
-  abbrev mark : ℕ
-  mark = length x.surface.cells + y.number
+  -- the number of the watching's hidden cell, and its binder
+  abbrev binder : ℕ
+  binder = length x.surface.cells + y.number
 
   abbrev pub hidden : ℕ
   hidden = f.spot.cell
 
-  abbrev scope : List Placed
-  scope = placed mark hidden ∷ f.spot.scope
+  abbrev scope : List Binding
+  scope = binding binder hidden ∷ f.spot.scope
 
   abbrev births : List ℕ
   births = f.spot.births ++ f.spot.start ∷ []
 
   abbrev pub ask : Constraint
-  ask = ask_of scope y.stop
+  ask = bound_constraint scope y.stop
 
   -- the part of the watching's own
-  abbrev clock : Sketch
-  clock = always (Then None y.stop (Par None (Tell None (on mark)) (Hence None (Tell None (on mark)))))
+  abbrev clock : SymbolicAgent
+  clock = always (Then None y.stop (Par None (Tell None (signal_on binder)) (Hence None (Tell None (signal_on binder)))))
 
-  abbrev body : Sketch
-  body = guarded mark (sketch_of (length x.surface.cells) (suc y.number) y.body)
+  abbrev body : SymbolicAgent
+  body = guarded binder (symbolic_of (length x.surface.cells) (suc y.number) y.body)
 
-  pub marked : slice_get (marks_of x) hidden ≡ Some mark
-  marked = stands-head f.at.part.marked
+  pub bound : slice_get (binders_of x) hidden ≡ Some binder
+  bound = stands-head f.at.part.bound
 
-  inner : At x (inside f.spot mark) (Par None clock body)
-  inner = at_new x f.spot None mark (Par None clock body) f.at
+  inner : At x (inside f.spot binder) (Par None clock body)
+  inner = at_new x f.spot None binder (Par None clock body) f.at
 
-  read : cell_of scope mark ≡ hidden
-  read = ap (λ (b : Bool). if b then hidden else cell_of f.spot.scope mark) (eq-eqb mark mark refl)
+  read : bound_cell scope binder ≡ hidden
+  read = ap (λ (b : Bool). if b then hidden else bound_cell f.spot.scope binder) (eq-eqb binder binder refl)
 
   -- THE LEAF WAITS
 
-  not_own : At x (under (inside f.spot mark)) clock → ⊥
+  not_own : At x (under (inside f.spot binder)) clock → ⊥
   not_own h =
       let In : ℕ → Type 0 = IsBelow y.number (Watch y.body y.stop) in
       let here : Way = way scope births [] in
-      let own = has_own (length x.surface.cells) (marks_of x) In Nowhere y.number (λ i. let behind = i.0 in omega arith) in
-      let first : Reads (marks_of x) 0 scope mark = reads_first (marks_of x) 0 f.spot.scope mark hidden mark refl marked in
-      not_at x In y.form y.stems y.inside clock (under (inside f.spot mark)) [] h
-      (watch_added (marks_of x) (Has (length x.surface.cells) (marks_of x) In Nowhere) here mark y.stop own first here (opens_same (marks_of x) here h.even))
+      let own = has_own (length x.surface.cells) (binders_of x) In Nowhere y.number (λ i. let behind = i.0 in omega arith) in
+      let first : Reads (binders_of x) 0 scope binder = reads_first (binders_of x) 0 f.spot.scope binder hidden binder refl bound in
+      not_at x In y.form y.stems y.inside clock (under (inside f.spot binder)) [] h
+      (watch_added (binders_of x) (Has (length x.surface.cells) (binders_of x) In Nowhere) here binder y.stop own first here (opens_same (binders_of x) here h.even))
 
-  others : Each (λ (k : ℕ). k ≡ mark → ⊥) (marks (sketch_of (length x.surface.cells) (suc y.number) y.body))
+  others : Each (λ (k : ℕ). k ≡ binder → ⊥) (binders (symbolic_of (length x.surface.cells) (suc y.number) y.body))
   others =
-      sketch_marks (λ (k : ℕ). k ≡ mark → ⊥) (length x.surface.cells) y.body (suc y.number) (λ i le e. omega arith)
-      (Each-map (λ (k : ℕ). k < length x.surface.cells) (λ (k : ℕ). k ≡ mark → ⊥) (λ k lt e. omega arith) (new_cells y.body) f.below)
+      symbolic_binders (λ (k : ℕ). k ≡ binder → ⊥) (length x.surface.cells) y.body (suc y.number) (λ i le e. omega arith)
+      (Each-map (λ (k : ℕ). k < length x.surface.cells) (λ (k : ℕ). k ≡ binder → ⊥) (λ k lt e. omega arith) (new_cells y.body) f.below)
 
   pub waiting : Waits x.program x.leaf hidden births
-  waiting = go (at_par x (inside f.spot mark) None clock body inner)
+  waiting = go (at_par x (inside f.spot binder) None clock body inner)
     where
-      go : At x (under (inside f.spot mark)) clock ⊎ At x (beside (inside f.spot mark) clock) body → Waits x.program x.leaf hidden births
+      go : At x (under (inside f.spot binder)) clock ⊎ At x (beside (inside f.spot binder) clock) body → Waits x.program x.leaf hidden births
       go (inl own) = absurd (not_own own)
-      go (inr at) = waits x mark hidden births (sketch_of (length x.surface.cells) (suc y.number) y.body) (beside (inside f.spot mark) clock) at read (inl refl) refl others
+      go (inr at) = waits x binder hidden births (symbolic_of (length x.surface.cells) (suc y.number) y.body) (beside (inside f.spot binder) clock) at read (inl refl) refl others
 
   -- THE CONSTRAINT
 
-  wider : (k : ℕ) → (k < x.surface.declared) ⊎ IsAmong f.locals k → Reads (marks_of x) x.surface.declared scope k
-  wider k h = reads_more (marks_of x) x.surface.declared f.spot.scope mark hidden k marked (f.seen k h)
+  wider : (k : ℕ) → (k < x.surface.declared) ⊎ IsAmong f.locals k → Reads (binders_of x) x.surface.declared scope k
+  wider k h = reads_more (binders_of x) x.surface.declared f.spot.scope binder hidden k bound (f.seen k h)
 
-  pub copies : copied (marks_of x) ask ≡ y.stop
-  copies = read_back (marks_of x) x.surface.declared scope y.stop (in_scope (marks_of x) x.surface.declared (bare x.surface) f.locals (way scope births []) refl (record { even = inner.even; reads = wider }) y.stop f.scoped.tokens)
+  pub copies : copied (binders_of x) ask ≡ y.stop
+  copies = read_back (binders_of x) x.surface.declared scope y.stop (in_scope (binders_of x) x.surface.declared (bare x.surface) f.locals (way scope births []) refl (record { even = inner.even; reads = wider }) y.stop f.scoped.tokens)
 
   -- OBSERVED
 
-  observed : IsTrue (runs x.program x.output x.leaf) → IsTrue (rests_after x.program x.output x.output f.spot.stores (agent.Par (once ask (on hidden)) (agent.Hence (once ask (on hidden)))) births f.spot.start)
+  observed : IsTrue (runs x.program x.output x.leaf) → IsTrue (rests_after x.program x.output x.output f.spot.stores (agent.Par (once ask (signal_on hidden)) (agent.Hence (once ask (signal_on hidden)))) births f.spot.start)
   observed r =
-      subst (λ (k : ℕ). IsTrue (rests_after x.program x.output x.output f.spot.stores (agent.Par (once ask (on k)) (agent.Hence (once ask (on k)))) births f.spot.start)) read
-      (both_observe x.program x.output f.spot.stores (agent_of scope (suc hidden) clock) (agent_of scope (suc hidden + length (marks clock)) body) births f.spot.start (inner.leads.rests r)).0
+      subst (λ (k : ℕ). IsTrue (rests_after x.program x.output x.output f.spot.stores (agent.Par (once ask (signal_on k)) (agent.Hence (once ask (signal_on k)))) births f.spot.start)) read
+      (both_observe x.program x.output f.spot.stores (bound_agent scope (suc hidden) clock) (bound_agent scope (suc hidden + length (binders clock)) body) births f.spot.start (inner.leads.rests r)).0
 
   module _ (program : IsWellFormed x.program) (same : x.program.declared ≡ x.surface.declared) (within : x.surface.declared ≤ length x.surface.cells) where
     -- NAMES
@@ -174,13 +174,13 @@ module _ (x : Trail) (y : Aim x) (f : Found x y) where
         go false e = refl
         go true e =
             let lt = ltb-true hidden x.program.declared e in
-            let once : Some hidden ≡ Some mark = sym (own_mark x.surface x.sketch hidden (omega arith)) ∙ marked in
-            let is : hidden ≡ mark = cc in
+            let once : Some hidden ≡ Some binder = sym (own_binder x.surface x.symbolic hidden (omega arith)) ∙ bound in
+            let is : hidden ≡ binder = cc in
             absurd (omega arith)
 
     deep : suc (depth_of x.program.nodes (new_of x.program.nodes hidden)) ≡ length births
     deep =
-        let e = ap (depth_of x.program.nodes) new_is ∙ depth_of-place x.program.nodes f.spot.node (cells_of f.spot.scope) _ f.at.part.place ∙ length-map f.spot.scope (λ (q : Placed). q.cell) in
+        let e = ap (depth_of x.program.nodes) new_is ∙ depth_of-place x.program.nodes f.spot.node (cells_of f.spot.scope) _ f.at.part.place ∙ length-map f.spot.scope (λ (q : Binding). q.cell) in
         let even = f.at.even in
         omega (arith, length-append f.spot.births (f.spot.start ∷ []))
 
@@ -199,13 +199,13 @@ module _ (x : Trail) (y : Aim x) (f : Found x y) where
     -- the constraint is read under the births of the form as under those of its hidden signal
     read_alike : (w : StoreMap) → entails x.program f.spot.births w ask ≡ entails x.program births w ask
     read_alike w =
-        let same_ask : ask ≡ ask_of f.spot.scope y.stop = ask_under mark hidden f.spot.scope y.stop (cells_below (bare x.surface) mark f.locals (omega arith) y.stop f.scoped.tokens) in
+        let same_ask : ask ≡ bound_constraint f.spot.scope y.stop = ask_under binder hidden f.spot.scope y.stop (cells_below (bare x.surface) binder f.locals (omega arith) y.stop f.scoped.tokens) in
         subst (λ (k : Constraint). entails x.program f.spot.births w k ≡ entails x.program births w k) (sym same_ask)
-        (entails_alike x.program f.spot.births births w (ask_of f.spot.scope y.stop)
+        (entails_alike x.program f.spot.births births w (bound_constraint f.spot.scope y.stop)
         (Each-map (λ (pair : ℕ × Token). (pair.0 < x.surface.declared) ⊎ IsAmong (cells_of f.spot.scope) pair.0) (λ (pair : ℕ × Token). name_of x.program f.spot.births pair.0 ≡ name_of x.program births pair.0)
-        (λ pair h. name_same x.program program f.spot.node _ (cells_of f.spot.scope) f.spot.births (f.spot.start ∷ []) f.at.part.over (f.at.even ∙ sym (length-map f.spot.scope (λ (q : Placed). q.cell))) pair.0 (visible pair.0 h))
-        (ask_of f.spot.scope y.stop)
-        (all_known (marks_of x) x.surface.declared f.spot.scope y.stop (in_scope (marks_of x) x.surface.declared (bare x.surface) f.locals (way f.spot.scope f.spot.births []) refl (record { even = f.at.even; reads = f.seen }) y.stop f.scoped.tokens))))
+        (λ pair h. name_same x.program program f.spot.node _ (cells_of f.spot.scope) f.spot.births (f.spot.start ∷ []) f.at.part.over (f.at.even ∙ sym (length-map f.spot.scope (λ (q : Binding). q.cell))) pair.0 (visible pair.0 h))
+        (bound_constraint f.spot.scope y.stop)
+        (all_known (binders_of x) x.surface.declared f.spot.scope y.stop (in_scope (binders_of x) x.surface.declared (bare x.surface) f.locals (way f.spot.scope f.spot.births []) refl (record { even = f.at.even; reads = f.seen }) y.stop f.scoped.tokens))))
       where
         visible : (k : ℕ) → (k < x.surface.declared) ⊎ IsAmong (cells_of f.spot.scope) k → (k < x.program.declared) ⊎ IsAmong (cells_of f.spot.scope) k
         visible k (inl lt) = inl (omega arith)
@@ -216,6 +216,6 @@ module _ (x : Trail) (y : Aim x) (f : Found x y) where
     -- where a store since the start entails the constraint, the leaf is not run
     pub stopped : (j : ℕ) (w : StoreMap) → slice_get (f.spot.stores ++ x.output ∷ []) j ≡ Some w → IsTrue (entails x.program f.spot.births w ask) → IsFalse (runs x.program x.output x.leaf)
     stopped j w found h =
-        not_run x.program x.output x.leaf x.leaf.births (on hidden) waiting.denied (λ r.
-        sym (entails_alike x.program births x.leaf.births x.output (on hidden) (own_named ∙ sym leaf_named, tt))
-        ∙ stays_on x.program x.output ask (on hidden) births f.spot.stores f.spot.start j w (observed r) found (sym (read_alike w) ∙ h))
+        not_run x.program x.output x.leaf x.leaf.births (signal_on hidden) waiting.denied (λ r.
+        sym (entails_alike x.program births x.leaf.births x.output (signal_on hidden) (own_named ∙ sym leaf_named, tt))
+        ∙ stays_on x.program x.output ask (signal_on hidden) births f.spot.stores f.spot.start j w (observed r) found (sym (read_alike w) ∙ h))

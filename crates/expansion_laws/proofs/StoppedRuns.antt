@@ -13,39 +13,47 @@ use Rattle.agent_core.proofs.ListingTrees.{root_tree}
 use Rattle.tdcc_reader.specs.Surfaces.{SurfaceProgram}
 use Rattle.tdcc_reader.specs.Trees.{Tree}
 use Rattle.surface_laws.specs.Surfaces.{IsScopedTree, bare, new_cells}
-use Rattle.expansion_laws.specs.Sketches.{Sketch}
-use Rattle.expansion_laws.specs.Numbering.{agent_of}
-use Rattle.expansion_laws.specs.Expanding.{sketch_of}
-use Rattle.expansion_laws.specs.Expansions.{IsProgramOf}
-use Rattle.expansion_laws.specs.Origins.{cell_marks}
-use Rattle.expansion_laws.specs.Paths.{IsWatched, StopsForGood}
+use Rattle.expansion_laws.specs.SymbolicAgents.{SymbolicAgent}
+use Rattle.expansion_laws.specs.Numbering.{bound_agent}
+use Rattle.expansion_laws.specs.Expanding.{symbolic_of}
+use Rattle.expansion_laws.specs.Expansions.{IsCoreOfSymbolic}
+use Rattle.expansion_laws.specs.Origins.{cell_binders}
+use Rattle.expansion_laws.specs.Stops.{WatchingForm, StartedCopy, IsWatched, StopsForGood}
 use Rattle.expansion_laws.proofs.Walks.{Reads}
 use Rattle.expansion_laws.proofs.Numbered.{root_part}
-use Rattle.expansion_laws.proofs.CopiedLeaves.{marks_stand}
+use Rattle.expansion_laws.proofs.CopiedLeaves.{binders_stand}
 use Rattle.expansion_laws.proofs.Leading.{Leads}
 use Rattle.expansion_laws.proofs.Starting.{run_leads, output_since}
 use Rattle.expansion_laws.proofs.Spots.{Trail, At}
 use Rattle.expansion_laws.proofs.FreeForms.{AreBelow, Aim, Found, find}
-use Rattle.expansion_laws.proofs.StoppedLeaves.{own_mark, ask, marked, waiting, copies, asked, leaf_named, stopped}
+use Rattle.expansion_laws.proofs.StoppedLeaves.{own_binder, ask, bound, waiting, copies, asked, leaf_named, stopped}
 
 counted_below : (first n end : ℕ) → first + n ≤ end → AreBelow end (count_up first n)
 counted_below first zero end le = tt
 counted_below first (suc n) end le = (omega arith, counted_below (suc first) n end (omega arith))
 
 -- what was found is what the law speaks of
-module _ (x : Trail) (y : Aim x) (f : Found x y) (program : IsWellFormed x.program) (made : IsProgramOf x.surface x.sketch x.program) (within : x.surface.declared ≤ length x.surface.cells) where
-  found_watched : IsWatched x.surface x.sketch x.program y.number y.stop x.leaf f.spot.start f.spot.births (ask x y f)
+module _ (x : Trail) (y : Aim x) (f : Found x y) (program : IsWellFormed x.program) (made : IsCoreOfSymbolic x.surface x.symbolic x.program) (within : x.surface.declared ≤ length x.surface.cells) where
+  -- the watching, and the copy of it from which the leaf comes
+  abbrev pub found_form : WatchingForm
+  found_form = record { number = y.number; body = y.body; stop = y.stop }
+
+  abbrev pub found_copy : StartedCopy
+  found_copy = record { hidden = f.spot.cell; start = f.spot.start; births = f.spot.births; stop = ask x y f }
+
+  found_watched : IsWatched x.surface x.symbolic x.program found_form found_copy x.leaf
   found_watched = let wait = waiting x y f in record {
-    hidden = f.spot.cell;
-    is = marked x y f;
-    around = wait.around;
-    denied = wait.denied;
-    more = wait.more;
-    first = wait.first ∙ append_assoc f.spot.births (f.spot.start ∷ []) wait.more;
-    named = leaf_named x y f program made.declared within;
-    body = suc (suc (suc (suc f.spot.node)));
-    asked = asked x y f program made.declared within;
-    copies = copies x y f;
+    waits = record { is = bound x y f; around = wait.around; denied = wait.denied };
+    comes = record {
+      more = wait.more;
+      first = wait.first ∙ append_assoc f.spot.births (f.spot.start ∷ []) wait.more;
+      named = leaf_named x y f program made.declared within;
+    };
+    asks = record {
+      body = suc (suc (suc (suc f.spot.node)));
+      asked = asked x y f program made.declared within;
+      copies = copies x y f;
+    };
   }
 
   module _ (outs : List StoreMap) (t : ℕ) (last : slice_get outs t ≡ Some x.output) (closed : take t outs ≡ x.closed) where
@@ -63,23 +71,29 @@ module _ (x : Trail) (y : Aim x) (f : Found x y) (program : IsWellFormed x.progr
         (output_since outs f.at.leads.front f.spot.stores t n f.spot.start x.output w last (closed ∙ f.at.leads.whole) f.at.leads.long from to found) h
 
 pub stops_for_good : (s : SurfaceProgram) (tree : Tree) (p : CoreProgram) → IsWellFormed p → s.declared ≤ length s.cells → new_cells tree ≡ count_up s.declared (length s.cells - s.declared) → IsScopedTree (bare s) [] tree
-    → IsProgramOf s (sketch_of (length s.cells) 0 tree) p → StopsForGood s tree (sketch_of (length s.cells) 0 tree) p
-stops_for_good s tree p program within locals scoped made m a c ins outs t v l free run last inside =
-    let d = sketch_of (length s.cells) 0 tree in
-    let z = take t outs in
-    let x : Trail = record { surface = s; sketch = d; program = p; closed = z; output = v; leaf = l; told = inside.ask; tells = inside.tells } in
+    → IsCoreOfSymbolic s (symbolic_of (length s.cells) 0 tree) p → StopsForGood s tree (symbolic_of (length s.cells) 0 tree) p
+stops_for_good s tree p program within locals scoped made w r l free instant inside =
+    let d = symbolic_of (length s.cells) 0 tree in
+    let z = take r.now r.outs in
+    let x : Trail = record { surface = s; symbolic = d; program = p; closed = z; output = r.output; leaf = l; told = inside.ask; tells = inside.tells } in
     let before = inside.before in
-    let y : Aim x = record { number = m; body = a; stop = c; form = inside.form; stems = inside.stems; inside = (inside.behind, omega arith) } in
-    let root : agent_at p.nodes 0 ≡ agent_of [] s.declared d = root_tree p.nodes (agent_of [] s.declared d, made.nodes) in
+    let y : Aim x = record { number = w.number; body = w.body; stop = w.stop; form = inside.form; stems = inside.stems; inside = (inside.behind, omega arith) } in
+    let root : agent_at p.nodes 0 ≡ bound_agent [] s.declared d = root_tree p.nodes (bound_agent [] s.declared d, made.nodes) in
     let here : At x (record { scope = []; node = 0; cell = s.declared; births = []; start = 0; stores = z }) d = record {
-      part = root_part p (cell_marks s d) s.declared d made.nodes (marks_stand s d);
-      leads = subst (λ (b : Agent). Leads p z v l z b 0 [] 0) root (run_leads p ins outs t v l run last inside.leaf);
+      part = root_part p (cell_binders s d) s.declared d made.nodes (binders_stand s d);
+      leads = subst (λ (b : Agent). Leads p z r.output l z b 0 [] 0) root (run_leads p r.ins r.outs r.now r.output l instant.run instant.last inside.leaf);
       even = refl;
     } in
     let below : AreBelow (length s.cells) (new_cells tree) = subst (AreBelow (length s.cells)) (sym locals) (counted_below s.declared (length s.cells - s.declared) (length s.cells) (omega arith)) in
-    let f = find x y tree 0 free [] (record { scope = []; node = 0; cell = s.declared; births = []; start = 0; stores = z }) here scoped (seen s d) below in
-    (f.spot.start, f.spot.births, ask x y f, found_watched x y f program made within, found_start x y f program made within outs t last refl, found_stopped x y f program made within outs t last refl)
+    let f = find x y tree 0 free [] (record { scope = []; node = 0; cell = s.declared; births = []; start = 0; stores = z }) here scoped (seen s d) below in (
+      found_copy x y f program made within,
+      found_watched x y f program made within,
+      record {
+        started = found_start x y f program made within r.outs r.now instant.last refl;
+        stopped = found_stopped x y f program made within r.outs r.now instant.last refl;
+      },
+    )
   where
-    seen : (s : SurfaceProgram) (d : Sketch) (mark : ℕ) → (mark < s.declared) ⊎ IsAmong [] mark → Reads (cell_marks s d) s.declared [] mark
-    seen s d mark (inl lt) = record { marked = own_mark s d mark lt; known = inl lt }
-    seen s d mark (inr among) = absurd among
+    seen : (s : SurfaceProgram) (d : SymbolicAgent) (binder : ℕ) → (binder < s.declared) ⊎ IsAmong [] binder → Reads (cell_binders s d) s.declared [] binder
+    seen s d binder (inl lt) = record { bound = own_binder s d binder lt; known = inl lt }
+    seen s d binder (inr among) = absurd among

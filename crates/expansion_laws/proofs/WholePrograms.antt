@@ -17,64 +17,64 @@ use Rattle.tdcc_reader.specs.Trees.{Tree}
 use Rattle.core_text.specs.CoreTexts.{name_at}
 use Rattle.core_text.specs.GoodNames.{IsCoreName, AreFresh, HasGoodNames}
 use Rattle.surface_laws.specs.Surfaces.{IsWellFormedSurface}
-use Rattle.expansion_laws.specs.Sketches.{Sketch, size, marks}
-use Rattle.expansion_laws.specs.Numbering.{agent_of, hidden, cells_from}
-use Rattle.expansion_laws.specs.Expanding.{sketch_of}
-use Rattle.expansion_laws.specs.Expansions.{IsSketchOf, IsProgramOf, IsExpansion}
+use Rattle.expansion_laws.specs.SymbolicAgents.{SymbolicAgent, symbolic_size, binders}
+use Rattle.expansion_laws.specs.Numbering.{bound_agent, hidden, cells_from}
+use Rattle.expansion_laws.specs.Expanding.{symbolic_of}
+use Rattle.expansion_laws.specs.Expansions.{IsSymbolicOf, IsCoreOfSymbolic, IsExpansion}
 use Rattle.expansion_laws.proofs.OneTree.{one_tree}
 use Rattle.expansion_laws.proofs.Counted.{size-agent_of, news_counted, length-cells_from}
 use Rattle.expansion_laws.proofs.Sound.{Sound, widens_same}
-use Rattle.expansion_laws.proofs.SoundForms.{sketch_sound}
+use Rattle.expansion_laws.proofs.SoundForms.{symbolic_sound}
 use Rattle.expansion_laws.proofs.SoundAgents.{copy, IsOver, agent_sound}
 use Rattle.expansion_laws.proofs.HiddenNames.{core_name, hidden_name, same_name}
 
--- ONE SKETCH AND ONE PROGRAM
+-- ONE SYMBOLIC AGENT AND ONE PROGRAM
 
-pub one_sketch : (s : SurfaceProgram) (d e : Sketch) → IsSketchOf s d → IsSketchOf s e → d ≡ e
-one_sketch s d e h k =
+pub one_symbolic : (s : SurfaceProgram) (d e : SymbolicAgent) → IsSymbolicOf s d → IsSymbolicOf s e → d ≡ e
+one_symbolic s d e h k =
     let same : h.tree ≡ k.tree = one_tree h.tree k.tree (sym h.written ∙ k.written) in
-    h.sketched ∙ ap (sketch_of (length s.cells) 0) same ∙ sym k.sketched
+    h.symbolic ∙ ap (symbolic_of (length s.cells) 0) same ∙ sym k.symbolic
 
 pub one_expansion : (s : SurfaceProgram) (p q : CoreProgram) → IsExpansion s p → IsExpansion s q → p ≡ q
 one_expansion s p q (d, is, e) (d', is', e') =
-    let same : d ≡ d' = one_sketch s d d' is is' in
-    let cells : p.cells ≡ q.cells = e.cells ∙ ap (λ (x : Sketch). take s.declared s.cells ++ cells_from s.cells s.declared (marks x)) same ∙ sym e'.cells in
+    let same : d ≡ d' = one_symbolic s d d' is is' in
+    let cells : p.cells ≡ q.cells = e.cells ∙ ap (λ (x : SymbolicAgent). take s.declared s.cells ++ cells_from s.cells s.declared (binders x)) same ∙ sym e'.cells in
     let declared : p.declared ≡ q.declared = e.declared ∙ sym e'.declared in
-    let nodes : p.nodes ≡ q.nodes = e.nodes ∙ ap (λ (x : Sketch). core.listing 0 (agent_of [] s.declared x)) same ∙ sym e'.nodes in
+    let nodes : p.nodes ≡ q.nodes = e.nodes ∙ ap (λ (x : SymbolicAgent). core.listing 0 (bound_agent [] s.declared x)) same ∙ sym e'.nodes in
     ap (λ (x : List CellDecl). record { cells = x; declared = p.declared; nodes = p.nodes }) cells
     ∙ ap (λ (x : ℕ). record { cells = q.cells; declared = x; nodes = p.nodes }) declared
     ∙ ap (λ (x : List Node). record { cells = q.cells; declared = q.declared; nodes = x }) nodes
 
 -- the core program of a tree
 abbrev made : SurfaceProgram → Tree → CoreProgram
-made s tree = let d : Sketch = sketch_of (length s.cells) 0 tree in record {
-  cells = take s.declared s.cells ++ cells_from s.cells s.declared (marks d);
+made s tree = let d : SymbolicAgent = symbolic_of (length s.cells) 0 tree in record {
+  cells = take s.declared s.cells ++ cells_from s.cells s.declared (binders d);
   declared = s.declared;
-  nodes = core.listing 0 (agent_of [] s.declared d);
+  nodes = core.listing 0 (bound_agent [] s.declared d);
 }
 
 pub some_expansion : (s : SurfaceProgram) → IsWellFormedSurface Program s → (p : CoreProgram) × IsExpansion s p
 some_expansion s is = (
   made s is.tree,
   (
-    sketch_of (length s.cells) 0 is.tree,
-    record { tree = is.tree; written = is.forms; sketched = refl },
+    symbolic_of (length s.cells) 0 is.tree,
+    record { tree = is.tree; written = is.forms; symbolic = refl },
     record { nodes = refl; cells = refl; declared = refl },
   ),
 )
 
 -- SIZES
 
-pub nodes_many : (s : SurfaceProgram) (d : Sketch) (p : CoreProgram) → IsProgramOf s d p → length p.nodes ≡ size d
-nodes_many s d p e = ap length e.nodes ∙ length-listing 0 (agent_of [] s.declared d) ∙ size-agent_of [] s.declared d
+pub nodes_many : (s : SurfaceProgram) (d : SymbolicAgent) (p : CoreProgram) → IsCoreOfSymbolic s d p → length p.nodes ≡ symbolic_size d
+nodes_many s d p e = ap length e.nodes ∙ length-listing 0 (bound_agent [] s.declared d) ∙ size-agent_of [] s.declared d
 
-pub cells_many : (s : SurfaceProgram) (d : Sketch) (p : CoreProgram) → IsWellFormedSurface Program s → IsProgramOf s d p → length p.cells ≡ s.declared + length (marks d)
+pub cells_many : (s : SurfaceProgram) (d : SymbolicAgent) (p : CoreProgram) → IsWellFormedSurface Program s → IsCoreOfSymbolic s d p → length p.cells ≡ s.declared + length (binders d)
 cells_many s d p is e =
     let front : length (take s.declared s.cells) ≡ s.declared = length-take-le s.declared s.cells is.within in
     ap length e.cells
-    ∙ length-append (take s.declared s.cells) (cells_from s.cells s.declared (marks d))
-    ∙ ap (λ (k : ℕ). k + length (cells_from s.cells s.declared (marks d))) front
-    ∙ ap (λ (k : ℕ). s.declared + k) (length-cells_from s.cells s.declared (marks d))
+    ∙ length-append (take s.declared s.cells) (cells_from s.cells s.declared (binders d))
+    ∙ ap (λ (k : ℕ). k + length (cells_from s.cells s.declared (binders d))) front
+    ∙ ap (λ (k : ℕ). s.declared + k) (length-cells_from s.cells s.declared (binders d))
 
 -- THE CELLS
 
@@ -95,47 +95,47 @@ back_get (x ∷ xs) ys (suc n) d e = go (back_get xs ys n d e)
     go (inr (k, same, f)) = inr (k, omega arith, f)
 
 -- each local cell is a copy
-copied_get : (cells : List CellDecl) (n : ℕ) (ms : List ℕ) (k : ℕ) (d : CellDecl) → slice_get (cells_from cells n ms) k ≡ Some d → (mark : ℕ) × (d ≡ copy cells mark (n + k))
+copied_get : (cells : List CellDecl) (n : ℕ) (ms : List ℕ) (k : ℕ) (d : CellDecl) → slice_get (cells_from cells n ms) k ≡ Some d → (binder : ℕ) × (d ≡ copy cells binder (n + k))
 copied_get cells n [] k d e = absurd (cc)
-copied_get cells n (mark ∷ ms) zero d e = (mark, (let same : copy cells mark n ≡ d = cc in let f : n ≡ n + 0 = omega arith in sym same ∙ ap (copy cells mark) f))
-copied_get cells n (mark ∷ ms) (suc k) d e =
+copied_get cells n (binder ∷ ms) zero d e = (binder, (let same : copy cells binder n ≡ d = cc in let f : n ≡ n + 0 = omega arith in sym same ∙ ap (copy cells binder) f))
+copied_get cells n (binder ∷ ms) (suc k) d e =
     let (found, same) = copied_get cells (suc n) ms k d e in
     (found, same ∙ ap (copy cells found) (let f : suc n + k ≡ n + suc k = omega arith in f))
 
-module _ (s : SurfaceProgram) (is : IsWellFormedSurface Program s) (d : Sketch) (p : CoreProgram) (e : IsProgramOf s d p) (few_nodes : length p.nodes ≤ 4096) (few_cells : length p.cells ≤ 1024) where
+module _ (s : SurfaceProgram) (is : IsWellFormedSurface Program s) (d : SymbolicAgent) (p : CoreProgram) (e : IsCoreOfSymbolic s d p) (few_nodes : length p.nodes ≤ 4096) (few_cells : length p.cells ≤ 1024) where
   over : IsOver s.cells p
   over = record {
     within = subst (λ (k : ℕ). k ≤ length s.cells) (sym e.declared) is.within;
     front = λ c lt.
         ap (λ (xs : List CellDecl). slice_get xs c) e.cells
-        ∙ front_get s.cells (cells_from s.cells s.declared (marks d)) s.declared c (subst (λ (k : ℕ). c < k) e.declared lt) is.within;
+        ∙ front_get s.cells (cells_from s.cells s.declared (binders d)) s.declared c (subst (λ (k : ℕ). c < k) e.declared lt) is.within;
     named = is.names;
     few = few_cells;
   }
 
-  local_stands : StandsAt CellDecl p.cells p.declared (cells_from s.cells p.declared (marks d))
+  local_stands : StandsAt CellDecl p.cells p.declared (cells_from s.cells p.declared (binders d))
   local_stands = record {
     front = take s.declared s.cells;
     back = [];
     whole = e.cells
-        ∙ ap (λ (k : ℕ). take s.declared s.cells ++ cells_from s.cells k (marks d)) (sym e.declared)
-        ∙ ap (λ (xs : List CellDecl). take s.declared s.cells ++ xs) (sym (append-nil (cells_from s.cells p.declared (marks d))));
+        ∙ ap (λ (k : ℕ). take s.declared s.cells ++ cells_from s.cells k (binders d)) (sym e.declared)
+        ∙ ap (λ (xs : List CellDecl). take s.declared s.cells ++ xs) (sym (append-nil (cells_from s.cells p.declared (binders d))));
     long = length-take-le s.declared s.cells is.within ∙ sym e.declared;
   }
 
-  listed : p.nodes ≡ core.listing 0 (agent_of [] p.declared d)
-  listed = e.nodes ∙ ap (λ (k : ℕ). core.listing 0 (agent_of [] k d)) (sym e.declared)
+  listed : p.nodes ≡ core.listing 0 (bound_agent [] p.declared d)
+  listed = e.nodes ∙ ap (λ (k : ℕ). core.listing 0 (bound_agent [] k d)) (sym e.declared)
 
-  root : agent_at p.nodes 0 ≡ agent_of [] p.declared d
-  root = root_tree p.nodes (agent_of [] p.declared d, listed)
+  root : agent_at p.nodes 0 ≡ bound_agent [] p.declared d
+  root = root_tree p.nodes (bound_agent [] p.declared d, listed)
 
-  module _ (sketch : IsSketchOf s d) where
+  module _ (symbolic : IsSymbolicOf s d) where
     sound : Sound s.cells p.declared [] d
     sound =
-        let same : is.tree ≡ sketch.tree = one_tree is.tree sketch.tree (sym is.forms ∙ sketch.written) in
-        let whole : Sound s.cells s.declared [] (sketch_of (length s.cells) 0 is.tree) = sketch_sound s is.tree 0 [] [] (widens_same s.cells s.declared []) is.scoped is.fresh in
+        let same : is.tree ≡ symbolic.tree = one_tree is.tree symbolic.tree (sym is.forms ∙ symbolic.written) in
+        let whole : Sound s.cells s.declared [] (symbolic_of (length s.cells) 0 is.tree) = symbolic_sound s is.tree 0 [] [] (widens_same s.cells s.declared []) is.scoped is.fresh in
         subst (λ (k : ℕ). Sound s.cells k [] d) (sym e.declared)
-        (subst (Sound s.cells s.declared []) (ap (sketch_of (length s.cells) 0) same ∙ sym sketch.sketched) whole)
+        (subst (Sound s.cells s.declared []) (ap (symbolic_of (length s.cells) 0) same ∙ sym symbolic.symbolic) whole)
 
     rooted : Scoped p [] (agent_at p.nodes 0) × AreFresh p [] (agent_at p.nodes 0)
     rooted =
@@ -146,28 +146,28 @@ module _ (s : SurfaceProgram) (is : IsWellFormedSurface Program s) (d : Sketch) 
     expansion_program =
         let many = cells_many s d p is e in
         let declared = e.declared in
-        let locals : length (marks d) ≡ length p.cells - p.declared = omega arith in
+        let locals : length (binders d) ≡ length p.cells - p.declared = omega arith in
         let few = is.few in
         record {
-          tree = (agent_of [] p.declared d, listed);
+          tree = (bound_agent [] p.declared d, listed);
           locals = ap (filter_map cell_of) listed ∙ news_counted [] p.declared 0 d ∙ ap (count_up p.declared) locals;
           scoped = rooted.0;
           limits = record { few_nodes = few_nodes; few_cells = few_cells; few_declared = omega arith; within = omega arith };
         }
 
     -- each cell has a name of core texts
-    copy_name : (mark n : ℕ) → n < 1024 → IsCoreName (copy s.cells mark n).name
-    copy_name mark n lt = go (slice_get s.cells mark) refl
+    copy_name : (binder n : ℕ) → n < 1024 → IsCoreName (copy s.cells binder n).name
+    copy_name binder n lt = go (slice_get s.cells binder) refl
       where
-        go : (o : Option CellDecl) → slice_get s.cells mark ≡ o → IsCoreName (unwrap_or o (hidden n)).name
+        go : (o : Option CellDecl) → slice_get s.cells binder ≡ o → IsCoreName (unwrap_or o (hidden n)).name
         go None f = hidden_name n lt
-        go (Some c) f = core_name c.name (is.names mark c f)
+        go (Some c) f = core_name c.name (is.names binder c f)
 
     cell_name : (n : ℕ) (c : CellDecl) → slice_get p.cells n ≡ Some c → IsCoreName c.name
     cell_name n c found = go (back_get (take s.declared s.cells) rest n c (ap (λ (xs : List CellDecl). slice_get xs n) (sym e.cells) ∙ found))
       where
         rest : List CellDecl
-        rest = cells_from s.cells s.declared (marks d)
+        rest = cells_from s.cells s.declared (binders d)
 
         long : length (take s.declared s.cells) ≡ s.declared
         long = length-take-le s.declared s.cells is.within
@@ -175,11 +175,11 @@ module _ (s : SurfaceProgram) (is : IsWellFormedSurface Program s) (d : Sketch) 
         go : (n < length (take s.declared s.cells)) ⊎ ((k : ℕ) × (n ≡ length (take s.declared s.cells) + k) × (slice_get rest k ≡ Some c)) → IsCoreName c.name
         go (inl lt) = core_name c.name (is.names n c (sym (over.front n (let h = long in let declared = e.declared in omega arith)) ∙ found))
         go (inr (k, place, f)) =
-            let (mark, same) = copied_get s.cells s.declared (marks d) k c f in
+            let (binder, same) = copied_get s.cells s.declared (binders d) k c f in
             let at : n ≡ s.declared + k = place ∙ ap (λ (i : ℕ). i + k) long in
             let inside = slice_get_within p.cells n c found in
             let few : s.declared + k < 1024 = omega arith in
-            subst (λ (x : CellDecl). IsCoreName x.name) (sym same) (copy_name mark (s.declared + k) few)
+            subst (λ (x : CellDecl). IsCoreName x.name) (sym same) (copy_name binder (s.declared + k) few)
 
     pub expansion_names : HasGoodNames p
     expansion_names = record {

@@ -1,7 +1,10 @@
-pub mod Sketches
+pub mod SymbolicAgents
 pub mod Table
 pub mod Expanding
 pub mod Numbering
 pub mod Expansions
 pub mod Origins
 pub mod Paths
+pub mod Stops
+pub mod RunTells
+pub mod WorkedForms

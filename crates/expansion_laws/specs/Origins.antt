@@ -8,51 +8,51 @@ use Rattle.agent_core.specs.Listing as core
 use Rattle.agent_core.specs.WellFormed.{count_up}
 use Rattle.tdcc_reader.specs.Surfaces.{SurfaceProgram}
 use Rattle.tdcc_reader.specs.Trees.{Tree, Skip, Tell, Then, Else, Par, New, Hence, Next, Always, When, Watch, Time, form_count}
-use Rattle.expansion_laws.specs.Sketches.{Sketch, marks}
+use Rattle.expansion_laws.specs.SymbolicAgents.{SymbolicAgent, binders}
 
 -- a form of a tree: its number, and the tree that begins there
-pub record Part : Type 0 where
+pub record Subtree : Type 0 where
   pub number : ℕ
   pub tree : Tree
 
-abbrev pub part : ℕ → Tree → Part
-part n t = record { number = n; tree = t }
+abbrev pub subtree : ℕ → Tree → Subtree
+subtree n t = record { number = n; tree = t }
 
 -- the forms of a tree whose root has number n
-abbrev pub parts : ℕ → Tree → List Part
-parts n Skip = part n Skip ∷ []
-parts n (Tell c) = part n (Tell c) ∷ []
-parts n (Then c a) = part n (Then c a) ∷ parts (suc n) a
-parts n (Else c a) = part n (Else c a) ∷ parts (suc n) a
-parts n (Par l r) = part n (Par l r) ∷ (parts (suc n) l ++ parts (suc n + form_count l) r)
-parts n (New cell a) = part n (New cell a) ∷ parts (suc n) a
-parts n (Hence a) = part n (Hence a) ∷ parts (suc n) a
-parts n (Next a) = part n (Next a) ∷ parts (suc n) a
-parts n (Always a) = part n (Always a) ∷ parts (suc n) a
-parts n (When c a) = part n (When c a) ∷ parts (suc n) a
-parts n (Watch a c) = part n (Watch a c) ∷ parts (suc n) a
-parts n (Time a c) = part n (Time a c) ∷ parts (suc n) a
+abbrev pub subtrees : ℕ → Tree → List Subtree
+subtrees n Skip = subtree n Skip ∷ []
+subtrees n (Tell c) = subtree n (Tell c) ∷ []
+subtrees n (Then c a) = subtree n (Then c a) ∷ subtrees (suc n) a
+subtrees n (Else c a) = subtree n (Else c a) ∷ subtrees (suc n) a
+subtrees n (Par l r) = subtree n (Par l r) ∷ (subtrees (suc n) l ++ subtrees (suc n + form_count l) r)
+subtrees n (New cell a) = subtree n (New cell a) ∷ subtrees (suc n) a
+subtrees n (Hence a) = subtree n (Hence a) ∷ subtrees (suc n) a
+subtrees n (Next a) = subtree n (Next a) ∷ subtrees (suc n) a
+subtrees n (Always a) = subtree n (Always a) ∷ subtrees (suc n) a
+subtrees n (When c a) = subtree n (When c a) ∷ subtrees (suc n) a
+subtrees n (Watch a c) = subtree n (Watch a c) ∷ subtrees (suc n) a
+subtrees n (Time a c) = subtree n (Time a c) ∷ subtrees (suc n) a
 
 -- those that stand in no body of a watching or of a time
-abbrev pub free_parts : ℕ → Tree → List Part
-free_parts n Skip = part n Skip ∷ []
-free_parts n (Tell c) = part n (Tell c) ∷ []
-free_parts n (Then c a) = part n (Then c a) ∷ free_parts (suc n) a
-free_parts n (Else c a) = part n (Else c a) ∷ free_parts (suc n) a
-free_parts n (Par l r) = part n (Par l r) ∷ (free_parts (suc n) l ++ free_parts (suc n + form_count l) r)
-free_parts n (New cell a) = part n (New cell a) ∷ free_parts (suc n) a
-free_parts n (Hence a) = part n (Hence a) ∷ free_parts (suc n) a
-free_parts n (Next a) = part n (Next a) ∷ free_parts (suc n) a
-free_parts n (Always a) = part n (Always a) ∷ free_parts (suc n) a
-free_parts n (When c a) = part n (When c a) ∷ free_parts (suc n) a
-free_parts n (Watch a c) = part n (Watch a c) ∷ []
-free_parts n (Time a c) = part n (Time a c) ∷ []
+abbrev pub free_subtrees : ℕ → Tree → List Subtree
+free_subtrees n Skip = subtree n Skip ∷ []
+free_subtrees n (Tell c) = subtree n (Tell c) ∷ []
+free_subtrees n (Then c a) = subtree n (Then c a) ∷ free_subtrees (suc n) a
+free_subtrees n (Else c a) = subtree n (Else c a) ∷ free_subtrees (suc n) a
+free_subtrees n (Par l r) = subtree n (Par l r) ∷ (free_subtrees (suc n) l ++ free_subtrees (suc n + form_count l) r)
+free_subtrees n (New cell a) = subtree n (New cell a) ∷ free_subtrees (suc n) a
+free_subtrees n (Hence a) = subtree n (Hence a) ∷ free_subtrees (suc n) a
+free_subtrees n (Next a) = subtree n (Next a) ∷ free_subtrees (suc n) a
+free_subtrees n (Always a) = subtree n (Always a) ∷ free_subtrees (suc n) a
+free_subtrees n (When c a) = subtree n (When c a) ∷ free_subtrees (suc n) a
+free_subtrees n (Watch a c) = subtree n (Watch a c) ∷ []
+free_subtrees n (Time a c) = subtree n (Time a c) ∷ []
 
--- the mark of each cell of the sketch's program: a declared cell is its own
-abbrev pub cell_marks : SurfaceProgram → Sketch → List ℕ
-cell_marks s d = count_up 0 s.declared ++ marks d
+-- the binder of each cell of the symbolic agent's program: a declared cell is its own
+abbrev pub cell_binders : SurfaceProgram → SymbolicAgent → List ℕ
+cell_binders s d = count_up 0 s.declared ++ binders d
 
--- the constraint that this one copies, by the marks of its cells
+-- the constraint that this one copies, by the binders of its cells
 abbrev pub copied : List ℕ → Constraint → Constraint
 copied ms ask = map (λ (pair : ℕ × Token). (unwrap_or (slice_get ms pair.0) pair.0, pair.1)) ask
 

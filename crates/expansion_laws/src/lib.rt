@@ -2,14 +2,8 @@
 //! Nothing here is to be run; the contracts of the crate that expands surfaces cite these definitions and laws.
 #![tactic(auto)]
 
-mod clocks;
-mod origins;
-mod programs;
-mod stops;
-mod watches;
+mod laws;
 
-pub use clocks::clocks_law;
-pub use origins::origins_law;
-pub use programs::{expansion_law, sizes_law};
-pub use stops::stops_law;
-pub use watches::watches_law;
+pub use laws::{
+    clock_law, expansion_law, paths_law, sizes_law, stops_law, watching_law, worked_law,
+};

@@ -7,8 +7,8 @@ use Rattle.agent_core.specs.Agents.{Agent, Tell, Then, Else, Par, New, Hence}
 use Rattle.agent_core.specs.Strata.{Each, Meets, agent_edges}
 use Rattle.agent_core.specs.Listing as core
 use Rattle.tdcc_reader.specs.Trees as tree
-use Rattle.expansion_laws.specs.Sketches.{marks}
-use Rattle.expansion_laws.specs.Numbering.{Placed, placed, cell_of, agent_of}
+use Rattle.expansion_laws.specs.SymbolicAgents.{binders}
+use Rattle.expansion_laws.specs.Numbering.{Binding, binding, bound_cell, bound_agent}
 use Rattle.generated_laws.specs.GeneratedUnits.{GeneratedUnit, Follows, Defaults, Delays, Starts, Ends, Bounds}
 use Rattle.generated_laws.specs.GeneratedSurfaces.{signal_on, part_tree}
 use Rattle.generated_laws.specs.GeneratedTables.{part_levels, declared_levels}
@@ -29,29 +29,29 @@ watch_agent n i j h d =
     New n (Par (Par w (Hence w)) (Par g (Hence g)))
 
 -- a hidden cell has its number, and hides no declared one
-own_cell : (mark n : ℕ) → cell_of (placed mark n ∷ []) mark ≡ n
+own_cell : (mark n : ℕ) → bound_cell (binding mark n ∷ []) mark ≡ n
 own_cell mark n = ap (λ (b : Bool). if b then n else mark) (eq-eqb mark mark refl)
 
-other_cell : (mark n i : ℕ) → i < mark → cell_of (placed mark n ∷ []) i ≡ i
+other_cell : (mark n i : ℕ) → i < mark → bound_cell (binding mark n ∷ []) i ≡ i
 other_cell mark n i less = go (nat_eq mark i) refl
   where
     go : (b : Bool) → nat_eq mark i ≡ b → (if b then n else i) ≡ i
     go true e = let same = eqb-true mark i e in absurd (omega arith)
     go false e = refl
 
-when_numbered : (m n i j : ℕ) → i < 32 → j < 32 → agent_of [] n (part_sketch m (Starts i j)) ≡ when_agent n i j n
+when_numbered : (m n i j : ℕ) → i < 32 → j < 32 → bound_agent [] n (part_sketch m (Starts i j)) ≡ when_agent n i j n
 when_numbered m n i j fi fj =
-    let scope : List Placed = placed (40 + m) n ∷ [] in
-    ap (λ (x : ℕ). when_agent n x (cell_of scope j) (cell_of scope (40 + m))) (other_cell (40 + m) n i (omega arith))
-    ∙ ap (λ (x : ℕ). when_agent n i x (cell_of scope (40 + m))) (other_cell (40 + m) n j (omega arith))
+    let scope : List Binding = binding (40 + m) n ∷ [] in
+    ap (λ (x : ℕ). when_agent n x (bound_cell scope j) (bound_cell scope (40 + m))) (other_cell (40 + m) n i (omega arith))
+    ∙ ap (λ (x : ℕ). when_agent n i x (bound_cell scope (40 + m))) (other_cell (40 + m) n j (omega arith))
     ∙ ap (when_agent n i j) (own_cell (40 + m) n)
 
-watch_numbered : (m n i j h : ℕ) → i < 32 → j < 32 → h < 32 → agent_of [] n (part_sketch m (Ends i j h)) ≡ watch_agent n i j h n
+watch_numbered : (m n i j h : ℕ) → i < 32 → j < 32 → h < 32 → bound_agent [] n (part_sketch m (Ends i j h)) ≡ watch_agent n i j h n
 watch_numbered m n i j h fi fj fh =
-    let scope : List Placed = placed (40 + m) n ∷ [] in
-    ap (λ (x : ℕ). watch_agent n x (cell_of scope j) (cell_of scope h) (cell_of scope (40 + m))) (other_cell (40 + m) n i (omega arith))
-    ∙ ap (λ (x : ℕ). watch_agent n i x (cell_of scope h) (cell_of scope (40 + m))) (other_cell (40 + m) n j (omega arith))
-    ∙ ap (λ (x : ℕ). watch_agent n i j x (cell_of scope (40 + m))) (other_cell (40 + m) n h (omega arith))
+    let scope : List Binding = binding (40 + m) n ∷ [] in
+    ap (λ (x : ℕ). watch_agent n x (bound_cell scope j) (bound_cell scope h) (bound_cell scope (40 + m))) (other_cell (40 + m) n i (omega arith))
+    ∙ ap (λ (x : ℕ). watch_agent n i x (bound_cell scope h) (bound_cell scope (40 + m))) (other_cell (40 + m) n j (omega arith))
+    ∙ ap (λ (x : ℕ). watch_agent n i j x (bound_cell scope (40 + m))) (other_cell (40 + m) n h (omega arith))
     ∙ ap (watch_agent n i j h) (own_cell (40 + m) n)
 
 -- LEVELS
@@ -93,7 +93,7 @@ module _ (table : List ℕ) (signals : (j : ℕ) → j < 32 → slice_index tabl
       let alive : level n + 1 ≤ level j = let b = signals j few in omega arith in
       (stopped, (stopped, (ask, (alive, (ask, (alive, tt))))))
 
-  part_met : (u : GeneratedUnit) → IsPart u → (front rest : List ℕ) → table ≡ front ++ (part_levels u ++ rest) → (m n k : ℕ) → n ≡ length front → Met k (agent_of [] n (part_sketch m u))
+  part_met : (u : GeneratedUnit) → IsPart u → (front rest : List ℕ) → table ≡ front ++ (part_levels u ++ rest) → (m n k : ℕ) → n ≡ length front → Met k (bound_agent [] n (part_sketch m u))
   part_met (Follows i j) (few, less) front rest e m n k long = let ask = not_after i j less few in (ask, (ask, tt))
   part_met (Defaults i j) (few, less) front rest e m n k long = let ask = earlier i j less few in (ask, (ask, tt))
   part_met (Delays i j) (few, less) front rest e m n k long = tt
@@ -108,15 +108,15 @@ module _ (table : List ℕ) (signals : (j : ℕ) → j < 32 → slice_index tabl
       (ask, (ask, tt))
 
   -- The table meets the edges of the parts, of which the hidden cells are numbered from n signal_on.
-  pub parts_met : (us : List GeneratedUnit) → Each IsPart us → (front : List ℕ) → table ≡ front ++ flat_map part_levels us → (m n k : ℕ) → n ≡ length front → Met k (agent_of [] n (parts_sketch m us))
+  pub parts_met : (us : List GeneratedUnit) → Each IsPart us → (front : List ℕ) → table ≡ front ++ flat_map part_levels us → (m n k : ℕ) → n ≡ length front → Met k (bound_agent [] n (parts_sketch m us))
   parts_met [] all front e m n k long = tt
   parts_met (u ∷ []) all front e m n k long = part_met u all.0 front [] e m n k long
   parts_met (u ∷ v ∷ vs) all front e m n k long =
       let rest : List ℕ = flat_map part_levels (v ∷ vs) in
       let many = part_levels_many u (suc m) in
-      let left : Agent = agent_of [] n (part_sketch (suc m) u) in
-      let next : ℕ = n + length (marks (part_sketch (suc m) u)) in
+      let left : Agent = bound_agent [] n (part_sketch (suc m) u) in
+      let next : ℕ = n + length (binders (part_sketch (suc m) u)) in
       let after : ℕ = suc m + tree.form_count (part_tree u) in
-      each_append (Meets table) (agent_edges (suc k) left []) (agent_edges (suc k + core.size left) (agent_of [] next (parts_sketch after (v ∷ vs))) [])
+      each_append (Meets table) (agent_edges (suc k) left []) (agent_edges (suc k + core.size left) (bound_agent [] next (parts_sketch after (v ∷ vs))) [])
       (part_met u all.0 front rest e (suc m) n (suc k) long)
       (parts_met (v ∷ vs) all.1 (front ++ part_levels u) (e ∙ sym (append_assoc front (part_levels u) rest)) after next (suc k + core.size left) (omega (arith, length-append front (part_levels u))))

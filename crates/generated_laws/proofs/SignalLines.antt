@@ -15,7 +15,7 @@ use Rattle.agent_core.specs.declared.node.CellDecl.{CellDecl}
 use Rattle.agent_core.specs.Agents.{Constraint}
 use Rattle.agent_core.specs.Programs.{CoreProgram}
 use Rattle.agent_core.specs.Tellings.{tell_all}
-use Rattle.expansion_laws.specs.Sketches.{marks}
+use Rattle.expansion_laws.specs.SymbolicAgents.{binders}
 use Rattle.expansion_laws.specs.Numbering.{cells_from}
 use Rattle.expansion_laws.specs.Expansions.{IsExpansion}
 use Rattle.trace_text.specs.Draws.{draw_after, drawn}
@@ -75,7 +75,7 @@ module _ (n : ℕ) (p : CoreProgram) (is : IsExpansion (surface n) p) where
   unfolding cells
   signal_found j few =
       let (d, sketched, made) = is in
-      ap (λ (ds : List CellDecl). slice_get ds j) made.cells ∙ row_get signal_cell 0 32 j (map number_cell (range_with_len 0 8) ++ cells_from cells 40 (marks d)) few ∙ ap (λ (k : ℕ). Some (signal_cell k)) (let same : 0 + j ≡ j = omega arith in same)
+      ap (λ (ds : List CellDecl). slice_get ds j) made.cells ∙ row_get signal_cell 0 32 j (map number_cell (range_with_len 0 8) ++ cells_from cells 40 (binders d)) few ∙ ap (λ (k : ℕ). Some (signal_cell k)) (let same : 0 + j ≡ j = omega arith in same)
 
   signal_says : (j : ℕ) → j < 32 → SayTexts p (signal_name j ∷ []) ((j, On) ∷ [])
   signal_says j few =

@@ -3,6 +3,7 @@ use Rattle.std.proofs.Common.{◌≡◌, inl, ℕ, ◌+◌, ◌<◌, Bool, true,
 use Rattle.std.specs.Prelude.{Option, All, slice_index, slice_index_or}
 use Rattle.std.specs.declared.alloc.Global.{Global}
 use Rattle.std.proofs.lemmas.List.{length-take-le, get_or-take}
+use Rattle.agent_core.specs.Limits.{most_cells}
 use Rattle.agent_core.specs.declared.node.CellDecl.{CellDecl}
 use Rattle.agent_core.specs.declared.node.Node.{Node}
 use Rattle.agent_core.specs.Programs.{CoreProgram}
@@ -137,7 +138,7 @@ module _ (p : CoreProgram) (is : IsWellFormed p) (t : List ℕ) (long : length t
       let b = at_cell p other s c lt in
       omega arith
 
-  cut-small : All (λ n. n < 1024) cut
+  cut-small : All (λ n. n < most_cells) cut
   cut-small k d lt =
       let l = cut-stratifies.long in
       let few = is.limits.few_cells in
@@ -148,10 +149,10 @@ module _ (p : CoreProgram) (is : IsWellFormed p) (t : List ℕ) (long : length t
 -- of lists that are the program's
 pub table-is : (p : CoreProgram) → IsWellFormed p → (cs : List CellDecl) (ns : List Node) (list : List Bound) (t found : List ℕ) → cs ≡ p.cells → ns ≡ p.nodes → list ≡ program_bounds p
     → length t ≡ length cs + length ns → All (Satisfies t) list → IsLeast list t → found ≡ take (length cs) t
-    → Stratifies p found × IsLeastTable p found × All (λ n. n < 1024) found
+    → Stratifies p found × IsLeastTable p found × All (λ n. n < most_cells) found
 table-is p is cs ns list t found ec en el long meets least ef =
     let same : found ≡ take (length p.cells) t = ef ∙ ap (λ (xs : List CellDecl). take (length xs) t) ec in
     let whole = long ∙ sum_of p cs ns ec en in
     let own : All (Satisfies t) (program_bounds p) = subst (λ (es : List Bound). All (Satisfies t) es) el meets in
     let low : IsLeast (program_bounds p) t = subst (λ (es : List Bound). IsLeast es t) el least in
-    subst (λ (xs : List ℕ). Stratifies p xs × IsLeastTable p xs × All (λ n. n < 1024) xs) (sym same) (cut-stratifies p is t whole own low, cut-least p is t whole own low, cut-small p is t whole own low)
+    subst (λ (xs : List ℕ). Stratifies p xs × IsLeastTable p xs × All (λ n. n < most_cells) xs) (sym same) (cut-stratifies p is t whole own low, cut-least p is t whole own low, cut-small p is t whole own low)

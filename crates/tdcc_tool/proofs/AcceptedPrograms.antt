@@ -15,9 +15,9 @@ use Rattle.program_grammar.specs.Phrases.{ProgramPhrase as Phrase}
 use Rattle.agent_core.specs.declared.node.CellDecl.{CellDecl}
 use Rattle.surface_laws.proofs.CellViews.{same_cells}
 use Rattle.surface_laws.proofs.WellFormed.{surface_formed}
-use Rattle.expansion_laws.specs.Sketches.{Sketch, size, marks}
-use Rattle.expansion_laws.specs.Expansions.{IsExpansion, IsSketchOf}
-use Rattle.expansion_laws.proofs.WholePrograms.{expansion_program, one_expansion, one_sketch, nodes_many, cells_many}
+use Rattle.expansion_laws.specs.SymbolicAgents.{SymbolicAgent, symbolic_size, binders}
+use Rattle.expansion_laws.specs.Expansions.{IsExpansion, IsSymbolicOf}
+use Rattle.expansion_laws.proofs.WholePrograms.{expansion_program, one_expansion, one_symbolic, nodes_many, cells_many}
 use Rattle.derived_forms.specs.declared.fault.ExpandFault.TheVariants as sizes
 use Rattle.derived_forms.specs.Refusals as expansion
 use Rattle.tdcc_tool.specs.Accepted.{IsBuilt, Accepts}
@@ -50,24 +50,24 @@ pub built_no_fault : (text : List ℕ) (p : CoreProgram) (f : ReadFault) → IsB
 built_no_fault text p f a (misread f' says refuses) = read_not_refused Program text a.surface f says a.reads refuses
 built_no_fault text p f a (many_nodes s reads (d, is, many)) =
     let (e, drawn, made) = a.core.expansion in
-    let same : d ≡ e = one_sketch a.surface d e (subst (λ (x : SurfaceProgram). IsSketchOf x d) (one_surface text s a.surface reads a.reads) is) drawn in
+    let same : d ≡ e = one_symbolic a.surface d e (subst (λ (x : SurfaceProgram). IsSymbolicOf x d) (one_surface text s a.surface reads a.reads) is) drawn in
     let nodes = nodes_many a.surface e p made in
     let few = a.core.few_nodes in
-    let size_same = ap size same in omega arith
+    let size_same = ap symbolic_size same in omega arith
 built_no_fault text p f a (many_cells s reads (d, is, few_nodes, many)) =
     let (e, drawn, made) = a.core.expansion in
     let surface = one_surface text s a.surface reads a.reads in
-    let same : d ≡ e = one_sketch a.surface d e (subst (λ (x : SurfaceProgram). IsSketchOf x d) surface is) drawn in
+    let same : d ≡ e = one_symbolic a.surface d e (subst (λ (x : SurfaceProgram). IsSymbolicOf x d) surface is) drawn in
     let cells = cells_many a.surface e p (surface_formed a.surface (text, a.reads)) made in
     let few = a.core.few_cells in
     let declared = ap (λ (x : SurfaceProgram). x.declared) surface in
-    let marks_same = ap (λ (x : Sketch). length (marks x)) same in omega arith
+    let marks_same = ap (λ (x : SymbolicAgent). length (binders x)) same in omega arith
 
 -- not both limits are gone past first
-not_both : (text : List ℕ) (s t : SurfaceProgram) → ReadsAs Program text s → ReadsAs Program text t → expansion.Refuses s sizes.TooManyNodes → expansion.Refuses t sizes.TooManyCells → ⊥
+not_both : (text : List ℕ) (s t : SurfaceProgram) → ReadsAs Program text s → ReadsAs Program text t → expansion.RefusesExpansion s sizes.TooManyNodes → expansion.RefusesExpansion t sizes.TooManyCells → ⊥
 not_both text s t reads reads' (d, is, many) (e, is', few, over) =
-    let same : d ≡ e = one_sketch t d e (subst (λ (x : SurfaceProgram). IsSketchOf x d) (one_surface text s t reads reads') is) is' in
-    let size_same = ap size same in omega arith
+    let same : d ≡ e = one_symbolic t d e (subst (λ (x : SurfaceProgram). IsSymbolicOf x d) (one_surface text s t reads reads') is) is' in
+    let size_same = ap symbolic_size same in omega arith
 
 -- a text has one fault
 pub one_text_fault : (text : List ℕ) (f g : ReadFault) → HasFault text f → HasFault text g → f ≡ g

@@ -12,5 +12,5 @@ use Rattle.derived_forms.specs.Refusals as expansion
 -- the text has the fault; out of memory is none
 pub data HasFault (text : List ℕ) : ReadFault → Type 0 where
   misread : (fault : ReadFault) → fault ≢ Memory → Refuses Program text fault → HasFault text fault
-  many_nodes : (s : SurfaceProgram) → ReadsAs Program text s → expansion.Refuses s sizes.TooManyNodes → HasFault text TooManyNodes
-  many_cells : (s : SurfaceProgram) → ReadsAs Program text s → expansion.Refuses s sizes.TooManyCells → HasFault text TooManyCells
+  many_nodes : (s : SurfaceProgram) → ReadsAs Program text s → expansion.RefusesExpansion s sizes.TooManyNodes → HasFault text TooManyNodes
+  many_cells : (s : SurfaceProgram) → ReadsAs Program text s → expansion.RefusesExpansion s sizes.TooManyCells → HasFault text TooManyCells

@@ -7,9 +7,9 @@ use Rattle.derived_forms.proofs.cells.number_cells.Given as goal
 abbrev pub invariant-loop-decl : goal.invariant-loop-decl
 invariant-loop-decl l = l.made.items ++ take l.decl-iterator.n (iter_rest l.decl-iterator.iter) ≡ take l.declared l.cells
 
--- and in front of the cells of the marks to come
-abbrev pub invariant-loop-mark : goal.invariant-loop-mark
-invariant-loop-mark l = record {
-  count : l.number ≡ l.declared + l.mark-index;
-  put : l.made.items ++ cells_from l.cells l.number (drop l.mark-index l.marks) ≡ take l.declared l.cells ++ cells_from l.cells l.declared l.marks;
+-- and in front of the cells of the binders to come
+abbrev pub invariant-loop-binder : goal.invariant-loop-binder
+invariant-loop-binder l = record {
+  count : l.number ≡ l.declared + l.binder-index;
+  put : l.made.items ++ cells_from l.cells l.number (drop l.binder-index l.binders) ≡ take l.declared l.cells ++ cells_from l.cells l.declared l.binders;
 }

@@ -1,161 +1,16 @@
-use Rattle.std.proofs.Common.{◌≡◌, ℕ, ◌+◌, ◌≤◌, List, [], ◌++◌, false, true, length, take, sym, ap, ◌∙◌, subst, arith}
-use Rattle.std.specs.Prelude.{reverse}
-use Rattle.agent_core.specs.declared.node.CellDecl.{CellDecl}
-use Rattle.core_text.specs.GoodNames.{HasGoodNames}
-use Rattle.expansion_laws.specs.Expanding.{sketch_of}
-use Rattle.expansion_laws.specs.Sketches.{size}
-use Rattle.expansion_laws.specs.Numbering.{agent_of, cells_from}
-use Rattle.expansion_laws.specs.Paths.{StopsForGood, TellsAreClocked, TellsAreGuarded, TellsStem}
-use Rattle.derived_forms.specs.Pieces.{pieces}
-use Rattle.derived_forms.specs.Promises.{OnItsTree}
-use Rattle.derived_forms.proofs.Expanded.{Expands, by_tree, cells_few, drawn, expansion_made, grown_many, its_forms, its_program, its_sketch, its_tree, local_few, nodes_few, sketch_large}
+-- What was made is the surface's program, so the laws of expansions hold of it.
 use Rattle.derived_forms.proofs.expansion.expand.Goals as goal
-
-pub returns-then-forms-gt-MAX_NODES-clause-fault : goal.returns-then-forms-gt-MAX_NODES-clause-fault
-returns-then-forms-gt-MAX_NODES-clause-fault c =
-    let is = c.forms-forms.ensures.surface in
-    (its_sketch c.args.surface.now is, drawn c.args.surface.now is, sketch_large c.args.surface.now is (let many = c.if-forms-gt-MAX_NODES.true in let same = ap length c.forms-forms.ensures.all in omega arith))
-
-pub returns-then-forms-gt-MAX_NODES-clause-complete : goal.returns-then-forms-gt-MAX_NODES-clause-complete
-returns-then-forms-gt-MAX_NODES-clause-complete c = λ d sketch few cells.
-    let is = c.forms-forms.ensures.surface in
-    let same = ap size (c.sizes_law.ensures.one c.args.surface.now d (its_sketch c.args.surface.now is) sketch (drawn c.args.surface.now is)) in
-    let large = sketch_large c.args.surface.now is (let many = c.if-forms-gt-MAX_NODES.true in let e = ap length c.forms-forms.ensures.all in omega arith) in
-    absurd (omega arith)
-
-pub overflow_cast-cells : goal.overflow_cast-cells
-overflow_cast-cells c =
-    let few = cells_few c.args.surface.now c.forms-forms.ensures.surface (let within = c.if-forms-gt-MAX_NODES.false in let e = ap length c.forms-forms.ensures.all in omega arith) in
-    let same = ap length c.cells-cells.ensures.all in
-    omega arith
-
-pub grow-requires : goal.grow-requires
-grow-requires c =
-    let few = cells_few c.args.surface.now c.forms-forms.ensures.surface (let within = c.if-forms-gt-MAX_NODES.false in let e = ap length c.forms-forms.ensures.all in omega arith) in
-    let same = ap length c.cells-cells.ensures.all in
-    let within = c.if-forms-gt-MAX_NODES.false in
-    omega arith
-
-pub returns-then-declared-len-gt-MAX_CELLS-clause-fault : goal.returns-then-declared-len-gt-MAX_CELLS-clause-fault
-returns-then-declared-len-gt-MAX_CELLS-clause-fault c =
-    let is = c.forms-forms.ensures.surface in
-    let d = its_sketch c.args.surface.now is in
-    let grown = c.in_ok-grown.ensures.grown (its_tree c.args.surface.now is) (c.forms-forms.ensures.all ∙ its_forms c.args.surface.now is) ∙ ap (λ (k : ℕ). pieces (sketch_of k 0 (its_tree c.args.surface.now is))) (ap length c.cells-cells.ensures.all) in
-    let many = grown_many c.in_ok-grown.grown.items d grown in
-    let room = c.in_ok-grown.ensures.room in
-    let news = ap length (c.in_ok-marks.ensures.marks d (ap reverse c.deref.ensures.value ∙ grown)) in
-    let long = c.len.ensures in
-    let declared = c.declared-declared.ensures.number in
-    let over = c.if-declared-len-gt-MAX_CELLS.true in
-    (d, drawn c.args.surface.now is, omega arith, omega arith)
-
-pub unreachable-requires : goal.unreachable-requires
-unreachable-requires c =
-    let x : Expands c.args.surface.now c.in_ok-grown.grown.items c.in_ok-marks.marks.items c.in_ok-cells.cells.items c.declared-declared.result c.in_ok-nodes.nodes.items = record {
-      surface = c.forms-forms.ensures.surface;
-      grown_is = λ t e. c.in_ok-grown.ensures.grown t (c.forms-forms.ensures.all ∙ e) ∙ ap (λ (k : ℕ). pieces (sketch_of k 0 t)) (ap length c.cells-cells.ensures.all);
-      marks_are = λ d e. c.in_ok-marks.ensures.marks d (ap reverse c.deref.ensures.value ∙ e);
-      nodes_are = λ d e. c.in_ok-nodes.ensures (agent_of [] c.declared-declared.result d) (c.in_ok-place_cells.ensures.placed d e);
-      cells_are = c.in_ok-cells.ensures
-          ∙ ap (λ (xs : List CellDecl). take c.declared-declared.result xs ++ cells_from xs c.declared-declared.result c.deref-2.result.now) c.cells-cells.ensures.all
-          ∙ ap (λ (ms : List ℕ). take c.declared-declared.result c.args.surface.now.cells ++ cells_from c.args.surface.now.cells c.declared-declared.result ms) c.deref-2.ensures.value;
-      declared_is = c.declared-declared.ensures.number;
-      room = c.in_ok-grown.ensures.room;
-      few = (let many = c.len.ensures in let within = c.if-declared-len-gt-MAX_CELLS.false in omega arith);
-    } in
-    let few_nodes = nodes_few c.args.surface.now c.in_ok-grown.grown.items c.in_ok-marks.marks.items c.in_ok-cells.cells.items c.declared-declared.result c.in_ok-nodes.nodes.items x (c.sizes_law.ensures.nodes c.args.surface.now) in
-    let few_cells = local_few c.args.surface.now c.in_ok-grown.grown.items c.in_ok-marks.marks.items c.in_ok-cells.cells.items c.declared-declared.result c.in_ok-nodes.nodes.items x (λ d p made. c.sizes_law.ensures.cells c.args.surface.now d p c.forms-forms.ensures.surface made) in
-    let none : false ≡ true = c.in-None.ensures.exactly.1 (c.expansion_law.ensures.program c.args.surface.now (its_program c.args.surface.now c.in_ok-grown.grown.items c.in_ok-marks.marks.items c.in_ok-cells.cells.items c.declared-declared.result c.in_ok-nodes.nodes.items x) c.forms-forms.ensures.surface (expansion_made c.args.surface.now c.in_ok-grown.grown.items c.in_ok-marks.marks.items c.in_ok-cells.cells.items c.declared-declared.result c.in_ok-nodes.nodes.items x) few_nodes few_cells) in
-    absurd (cc)
 
 pub returns-clause-names : goal.returns-clause-names
 returns-clause-names c =
-    let x : Expands c.args.surface.now c.in_ok-grown.grown.items c.in_ok-marks.marks.items c.in_ok-cells.cells.items c.declared-declared.result c.in_ok-nodes.nodes.items = record {
-      surface = c.forms-forms.ensures.surface;
-      grown_is = λ t e. c.in_ok-grown.ensures.grown t (c.forms-forms.ensures.all ∙ e) ∙ ap (λ (k : ℕ). pieces (sketch_of k 0 t)) (ap length c.cells-cells.ensures.all);
-      marks_are = λ d e. c.in_ok-marks.ensures.marks d (ap reverse c.deref.ensures.value ∙ e);
-      nodes_are = λ d e. c.in_ok-nodes.ensures (agent_of [] c.declared-declared.result d) (c.in_ok-place_cells.ensures.placed d e);
-      cells_are = c.in_ok-cells.ensures
-          ∙ ap (λ (xs : List CellDecl). take c.declared-declared.result xs ++ cells_from xs c.declared-declared.result c.deref-2.result.now) c.cells-cells.ensures.all
-          ∙ ap (λ (ms : List ℕ). take c.declared-declared.result c.args.surface.now.cells ++ cells_from c.args.surface.now.cells c.declared-declared.result ms) c.deref-2.ensures.value;
-      declared_is = c.declared-declared.ensures.number;
-      room = c.in_ok-grown.ensures.room;
-      few = (let many = c.len.ensures in let within = c.if-declared-len-gt-MAX_CELLS.false in omega arith);
-    } in
-    let few_nodes = nodes_few c.args.surface.now c.in_ok-grown.grown.items c.in_ok-marks.marks.items c.in_ok-cells.cells.items c.declared-declared.result c.in_ok-nodes.nodes.items x (c.sizes_law.ensures.nodes c.args.surface.now) in
-    let few_cells = local_few c.args.surface.now c.in_ok-grown.grown.items c.in_ok-marks.marks.items c.in_ok-cells.cells.items c.declared-declared.result c.in_ok-nodes.nodes.items x (λ d p made. c.sizes_law.ensures.cells c.args.surface.now d p c.forms-forms.ensures.surface made) in
-    subst HasGoodNames (sym c.in-Some.ensures.same) (c.expansion_law.ensures.names c.args.surface.now (its_program c.args.surface.now c.in_ok-grown.grown.items c.in_ok-marks.marks.items c.in_ok-cells.cells.items c.declared-declared.result c.in_ok-nodes.nodes.items x) c.forms-forms.ensures.surface (expansion_made c.args.surface.now c.in_ok-grown.grown.items c.in_ok-marks.marks.items c.in_ok-cells.cells.items c.declared-declared.result c.in_ok-nodes.nodes.items x) few_nodes few_cells)
+    let made = c.in_ok-program.ensures in
+    c.expansion_law.ensures.names c.args.surface.now c.in_ok-program.program made.surface made.found made.program.limits.few_nodes made.program.limits.few_cells
 
 pub returns-clause-stems : goal.returns-clause-stems
-returns-clause-stems c =
-    let x : Expands c.args.surface.now c.in_ok-grown.grown.items c.in_ok-marks.marks.items c.in_ok-cells.cells.items c.declared-declared.result c.in_ok-nodes.nodes.items = record {
-      surface = c.forms-forms.ensures.surface;
-      grown_is = λ t e. c.in_ok-grown.ensures.grown t (c.forms-forms.ensures.all ∙ e) ∙ ap (λ (k : ℕ). pieces (sketch_of k 0 t)) (ap length c.cells-cells.ensures.all);
-      marks_are = λ d e. c.in_ok-marks.ensures.marks d (ap reverse c.deref.ensures.value ∙ e);
-      nodes_are = λ d e. c.in_ok-nodes.ensures (agent_of [] c.declared-declared.result d) (c.in_ok-place_cells.ensures.placed d e);
-      cells_are = c.in_ok-cells.ensures
-          ∙ ap (λ (xs : List CellDecl). take c.declared-declared.result xs ++ cells_from xs c.declared-declared.result c.deref-2.result.now) c.cells-cells.ensures.all
-          ∙ ap (λ (ms : List ℕ). take c.declared-declared.result c.args.surface.now.cells ++ cells_from c.args.surface.now.cells c.declared-declared.result ms) c.deref-2.ensures.value;
-      declared_is = c.declared-declared.ensures.number;
-      room = c.in_ok-grown.ensures.room;
-      few = (let many = c.len.ensures in let within = c.if-declared-len-gt-MAX_CELLS.false in omega arith);
-    } in
-    subst (OnItsTree c.args.surface.now TellsStem) (sym c.in-Some.ensures.same)
-    (λ t e. c.origins_law.ensures c.args.surface.now t (its_program c.args.surface.now c.in_ok-grown.grown.items c.in_ok-marks.marks.items c.in_ok-cells.cells.items c.declared-declared.result c.in_ok-nodes.nodes.items x) c.forms-forms.ensures.surface e (by_tree c.args.surface.now c.in_ok-grown.grown.items c.in_ok-marks.marks.items c.in_ok-cells.cells.items c.declared-declared.result c.in_ok-nodes.nodes.items x t e))
+returns-clause-stems c = let made = c.in_ok-program.ensures in c.paths_law.ensures.stems c.args.surface.now c.in_ok-program.program made.surface made.found
 
 pub returns-clause-guarded : goal.returns-clause-guarded
-returns-clause-guarded c =
-    let x : Expands c.args.surface.now c.in_ok-grown.grown.items c.in_ok-marks.marks.items c.in_ok-cells.cells.items c.declared-declared.result c.in_ok-nodes.nodes.items = record {
-      surface = c.forms-forms.ensures.surface;
-      grown_is = λ t e. c.in_ok-grown.ensures.grown t (c.forms-forms.ensures.all ∙ e) ∙ ap (λ (k : ℕ). pieces (sketch_of k 0 t)) (ap length c.cells-cells.ensures.all);
-      marks_are = λ d e. c.in_ok-marks.ensures.marks d (ap reverse c.deref.ensures.value ∙ e);
-      nodes_are = λ d e. c.in_ok-nodes.ensures (agent_of [] c.declared-declared.result d) (c.in_ok-place_cells.ensures.placed d e);
-      cells_are = c.in_ok-cells.ensures
-          ∙ ap (λ (xs : List CellDecl). take c.declared-declared.result xs ++ cells_from xs c.declared-declared.result c.deref-2.result.now) c.cells-cells.ensures.all
-          ∙ ap (λ (ms : List ℕ). take c.declared-declared.result c.args.surface.now.cells ++ cells_from c.args.surface.now.cells c.declared-declared.result ms) c.deref-2.ensures.value;
-      declared_is = c.declared-declared.ensures.number;
-      room = c.in_ok-grown.ensures.room;
-      few = (let many = c.len.ensures in let within = c.if-declared-len-gt-MAX_CELLS.false in omega arith);
-    } in
-    let few_nodes = nodes_few c.args.surface.now c.in_ok-grown.grown.items c.in_ok-marks.marks.items c.in_ok-cells.cells.items c.declared-declared.result c.in_ok-nodes.nodes.items x (c.sizes_law.ensures.nodes c.args.surface.now) in
-    let few_cells = local_few c.args.surface.now c.in_ok-grown.grown.items c.in_ok-marks.marks.items c.in_ok-cells.cells.items c.declared-declared.result c.in_ok-nodes.nodes.items x (λ d p made. c.sizes_law.ensures.cells c.args.surface.now d p c.forms-forms.ensures.surface made) in
-    subst (OnItsTree c.args.surface.now TellsAreGuarded) (sym c.in-Some.ensures.same)
-    (λ t e. c.watches_law.ensures c.args.surface.now t (its_program c.args.surface.now c.in_ok-grown.grown.items c.in_ok-marks.marks.items c.in_ok-cells.cells.items c.declared-declared.result c.in_ok-nodes.nodes.items x) c.forms-forms.ensures.surface e (by_tree c.args.surface.now c.in_ok-grown.grown.items c.in_ok-marks.marks.items c.in_ok-cells.cells.items c.declared-declared.result c.in_ok-nodes.nodes.items x t e) few_nodes few_cells)
+returns-clause-guarded c = let made = c.in_ok-program.ensures in c.paths_law.ensures.guarded c.args.surface.now c.in_ok-program.program made.found
 
 pub returns-clause-clocked : goal.returns-clause-clocked
-returns-clause-clocked c =
-    let x : Expands c.args.surface.now c.in_ok-grown.grown.items c.in_ok-marks.marks.items c.in_ok-cells.cells.items c.declared-declared.result c.in_ok-nodes.nodes.items = record {
-      surface = c.forms-forms.ensures.surface;
-      grown_is = λ t e. c.in_ok-grown.ensures.grown t (c.forms-forms.ensures.all ∙ e) ∙ ap (λ (k : ℕ). pieces (sketch_of k 0 t)) (ap length c.cells-cells.ensures.all);
-      marks_are = λ d e. c.in_ok-marks.ensures.marks d (ap reverse c.deref.ensures.value ∙ e);
-      nodes_are = λ d e. c.in_ok-nodes.ensures (agent_of [] c.declared-declared.result d) (c.in_ok-place_cells.ensures.placed d e);
-      cells_are = c.in_ok-cells.ensures
-          ∙ ap (λ (xs : List CellDecl). take c.declared-declared.result xs ++ cells_from xs c.declared-declared.result c.deref-2.result.now) c.cells-cells.ensures.all
-          ∙ ap (λ (ms : List ℕ). take c.declared-declared.result c.args.surface.now.cells ++ cells_from c.args.surface.now.cells c.declared-declared.result ms) c.deref-2.ensures.value;
-      declared_is = c.declared-declared.ensures.number;
-      room = c.in_ok-grown.ensures.room;
-      few = (let many = c.len.ensures in let within = c.if-declared-len-gt-MAX_CELLS.false in omega arith);
-    } in
-    let few_nodes = nodes_few c.args.surface.now c.in_ok-grown.grown.items c.in_ok-marks.marks.items c.in_ok-cells.cells.items c.declared-declared.result c.in_ok-nodes.nodes.items x (c.sizes_law.ensures.nodes c.args.surface.now) in
-    let few_cells = local_few c.args.surface.now c.in_ok-grown.grown.items c.in_ok-marks.marks.items c.in_ok-cells.cells.items c.declared-declared.result c.in_ok-nodes.nodes.items x (λ d p made. c.sizes_law.ensures.cells c.args.surface.now d p c.forms-forms.ensures.surface made) in
-    subst (OnItsTree c.args.surface.now TellsAreClocked) (sym c.in-Some.ensures.same)
-    (λ t e. c.clocks_law.ensures c.args.surface.now t (its_program c.args.surface.now c.in_ok-grown.grown.items c.in_ok-marks.marks.items c.in_ok-cells.cells.items c.declared-declared.result c.in_ok-nodes.nodes.items x) c.forms-forms.ensures.surface e (by_tree c.args.surface.now c.in_ok-grown.grown.items c.in_ok-marks.marks.items c.in_ok-cells.cells.items c.declared-declared.result c.in_ok-nodes.nodes.items x t e) few_nodes few_cells)
-
-pub returns-clause-stopped : goal.returns-clause-stopped
-returns-clause-stopped c =
-    let x : Expands c.args.surface.now c.in_ok-grown.grown.items c.in_ok-marks.marks.items c.in_ok-cells.cells.items c.declared-declared.result c.in_ok-nodes.nodes.items = record {
-      surface = c.forms-forms.ensures.surface;
-      grown_is = λ t e. c.in_ok-grown.ensures.grown t (c.forms-forms.ensures.all ∙ e) ∙ ap (λ (k : ℕ). pieces (sketch_of k 0 t)) (ap length c.cells-cells.ensures.all);
-      marks_are = λ d e. c.in_ok-marks.ensures.marks d (ap reverse c.deref.ensures.value ∙ e);
-      nodes_are = λ d e. c.in_ok-nodes.ensures (agent_of [] c.declared-declared.result d) (c.in_ok-place_cells.ensures.placed d e);
-      cells_are = c.in_ok-cells.ensures
-          ∙ ap (λ (xs : List CellDecl). take c.declared-declared.result xs ++ cells_from xs c.declared-declared.result c.deref-2.result.now) c.cells-cells.ensures.all
-          ∙ ap (λ (ms : List ℕ). take c.declared-declared.result c.args.surface.now.cells ++ cells_from c.args.surface.now.cells c.declared-declared.result ms) c.deref-2.ensures.value;
-      declared_is = c.declared-declared.ensures.number;
-      room = c.in_ok-grown.ensures.room;
-      few = (let many = c.len.ensures in let within = c.if-declared-len-gt-MAX_CELLS.false in omega arith);
-    } in
-    let few_nodes = nodes_few c.args.surface.now c.in_ok-grown.grown.items c.in_ok-marks.marks.items c.in_ok-cells.cells.items c.declared-declared.result c.in_ok-nodes.nodes.items x (c.sizes_law.ensures.nodes c.args.surface.now) in
-    let few_cells = local_few c.args.surface.now c.in_ok-grown.grown.items c.in_ok-marks.marks.items c.in_ok-cells.cells.items c.declared-declared.result c.in_ok-nodes.nodes.items x (λ d p made. c.sizes_law.ensures.cells c.args.surface.now d p c.forms-forms.ensures.surface made) in
-    subst (OnItsTree c.args.surface.now StopsForGood) (sym c.in-Some.ensures.same)
-    (λ t e. c.stops_law.ensures c.args.surface.now t (its_program c.args.surface.now c.in_ok-grown.grown.items c.in_ok-marks.marks.items c.in_ok-cells.cells.items c.declared-declared.result c.in_ok-nodes.nodes.items x) c.forms-forms.ensures.surface e (by_tree c.args.surface.now c.in_ok-grown.grown.items c.in_ok-marks.marks.items c.in_ok-cells.cells.items c.declared-declared.result c.in_ok-nodes.nodes.items x t e) few_nodes few_cells)
+returns-clause-clocked c = let made = c.in_ok-program.ensures in c.paths_law.ensures.clocked c.args.surface.now c.in_ok-program.program made.surface made.found made.program

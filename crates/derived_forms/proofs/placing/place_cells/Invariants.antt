@@ -1,17 +1,17 @@
 use Rattle.std.proofs.Common.{◌≡◌, ◌+◌, ◌≤◌, length, vec_len}
 use Rattle.std.specs.Prelude.{reverse}
-use Rattle.expansion_laws.specs.Sketches.{Sketch}
-use Rattle.derived_forms.specs.Pieces.{pieces}
+use Rattle.expansion_laws.specs.SymbolicAgents.{SymbolicAgent}
+use Rattle.derived_forms.specs.FlatNodes.{flat_nodes}
 use Rattle.derived_forms.proofs.PlacedWorks.{IsPlaced}
 use Rattle.derived_forms.proofs.placing.place_cells.Given as goal
 
--- some sketches are still to get their cells, and what is placed stands in front of them
-abbrev pub invariant-loop-piece : goal.invariant-loop-piece
-invariant-loop-piece l = record {
+-- some symbolic agents are still to get their cells, and what is placed stands in front of them
+abbrev pub invariant-loop-flat_node : goal.invariant-loop-flat_node
+invariant-loop-flat_node l = record {
   few : l.scope.next ≤ l.declared + length l.placed.items;
-  all : length l.placed.items + length l.grown.items ≡ length l.fn.grown.items;
-  done : (d : Sketch) → reverse l.fn.grown.items ≡ pieces d → IsPlaced d l.declared (reverse l.grown.items) l.placed.items l.scope;
+  all : length l.placed.items + length l.emitted.items ≡ length l.fn.emitted.items;
+  done : (d : SymbolicAgent) → reverse l.fn.emitted.items ≡ flat_nodes d → IsPlaced d l.declared (reverse l.emitted.items) l.placed.items l.scope;
 }
 
-abbrev pub decreases-loop-piece : goal.decreases-loop-piece
-decreases-loop-piece l = vec_len l.grown
+abbrev pub decreases-loop-flat_node : goal.decreases-loop-flat_node
+decreases-loop-flat_node l = vec_len l.emitted

@@ -2,8 +2,8 @@ use Rattle.std.proofs.Common.{◌∙◌, sym}
 use Rattle.derived_forms.proofs.PlacedWorks.{skip_scopes, tell_scopes}
 use Rattle.derived_forms.proofs.placing.Scope.place.Goals as goal
 
-pub returns-in_ok-ask_of-in-Tell-clause-scopes : goal.returns-in_ok-ask_of-in-Tell-clause-scopes
-returns-in_ok-ask_of-in-Tell-clause-scopes c = λ w outer e n h.
+pub returns-in_ok-bound_constraint-in-Tell-clause-scopes : goal.returns-in_ok-bound_constraint-in-Tell-clause-scopes
+returns-in_ok-bound_constraint-in-Tell-clause-scopes c = λ w outer e n h.
     tell_scopes _ w outer c.leave.new.self (sym c.in-Tell.is ∙ e) (c.leave.ensures.left w.scope outer h)
 
 pub returns-in-Skip-clause-scopes : goal.returns-in-Skip-clause-scopes
