@@ -14,3 +14,4 @@ pub mod Texts
 pub mod OneAnswer
 pub mod WholeRuns
 pub mod Writings
+pub mod KnownInputs

@@ -7,6 +7,7 @@ ghost use Rattle.tdcc_tool.specs.Answers.{Answers, IsCommand, IsNoCommand};
 ghost use Rattle.tdcc_tool.specs.Completeness.{IsRunnable, EndsWhole, IsRoomFor};
 ghost use Rattle.tdcc_tool.specs.Cuts.{CutsOut, own_line};
 ghost use Rattle.tdcc_tool.specs.Ends.{IsSettled, IsToolStatus};
+ghost use Rattle.tdcc_tool.specs.KnownInputs.{MayHave};
 ghost use Rattle.tdcc_tool.specs.Tasks.{IsGenerated, ReadsTrace};
 
 use crate::answer::Stop;
@@ -39,14 +40,16 @@ pub fn tdcc<R: Threads + Sync, S: Source, K: Sink, E: Sink, G: Gate>(
     gate: &G,
 ) -> Status
     // The defined answer, where nothing cut the call short.
-    ensures answer { IsSettled result → IfSome (S.left source.old) (λ bytes. (o e : List ℕ) ×
+    ensures answer { IsSettled result → (bytes : List ℕ) → MayHave words.now (S.left source.old) bytes → (o e : List ℕ) ×
         Answers words.now bytes result o e
         × Appends (K.written out.old) (K.written out.new) o
-        × WritesUntilFault (E.written err.old) (E.written err.new) (E.faults err.old) (E.faults err.new) e) }
+        × WritesUntilFault (E.written err.old) (E.written err.new) (E.faults err.old) (E.faults err.new) e }
 
     // What a fault, or memory that ran out, leaves.
-    ensures cut_out { (bytes given : List ℕ) → S.left source.old ≡ Some bytes → Consumes (S.left source.old) (S.left source.new) given →
-        CutsOut result words.now bytes given (K.written out.old) (K.written out.new) }
+    ensures cut_out { (bytes given : List ℕ) → MayHave words.now (S.left source.old) bytes
+        → Consumes (S.left source.old) (S.left source.new) given
+        → CutsOut result words.now bytes given (K.written out.old) (K.written out.new) }
+    ensures no_trace { (command : Command) → IsCommand command words.now → ¬ ReadsTrace command → result ≡ Status.Read → out.new ≡ out.old }
     ensures own_line { IfSome (own_line result) (λ line. WritesUntilFault (E.written err.old) (E.written err.new) (E.faults err.old) (E.faults err.new) line) }
     ensures read { result ≡ Status.Read → Rose (S.faults source.old) (S.faults source.new) }
     ensures write { result ≡ Status.Write → Rose (K.faults out.old) (K.faults out.new) }
@@ -56,8 +59,8 @@ pub fn tdcc<R: Threads + Sync, S: Source, K: Sink, E: Sink, G: Gate>(
     ensures whole { IfSome (S.left source.old) (λ bytes. IsRunnable words.now bytes →
         EndsWhole result (Rose (S.faults source.old) (S.faults source.new)) (Rose (K.faults out.old) (K.faults out.new))) }
     ensures steady { IsTrue (S.steady source.old) → result ≡ Status.Read → ⊥ }
-    ensures roomy { (bytes : List ℕ) (s : Status) (o e : List ℕ) → S.left source.old ≡ Some bytes → Answers words.now bytes s o e →
-        IsRoomFor (K.room out.old) o → result ≡ Status.Write → ⊥ }
+    ensures roomy { (bytes : List ℕ) (s : Status) (o e : List ℕ) → MayHave words.now (S.left source.old) bytes
+        → Answers words.now bytes s o e → IsRoomFor (K.room out.old) o → result ≡ Status.Write → ⊥ }
 
     // A generated run goes to its end, unless memory runs out or `out` fails.
     ensures generated_whole { (command : Command) → IsCommand command words.now → IsGenerated command →
