@@ -8,6 +8,7 @@ pub mod GeneratedRuns
 pub mod InstantNets
 pub mod RunAnswers
 pub mod RunSteps
+pub mod SomeRuns
 pub mod SameWorkers
 pub mod TextAnswers
 pub mod Texts
@@ -15,3 +16,4 @@ pub mod OneAnswer
 pub mod WholeRuns
 pub mod Writings
 pub mod KnownInputs
+pub mod SomeAnswers

@@ -67,13 +67,13 @@ given_long p (line ∷ lines) (i ∷ ins) r = ap suc (given_long p lines ins r.1
 given_long p [] (i ∷ ins) r = absurd r
 given_long p (line ∷ lines) [] r = absurd r
 
-given_more : (p : CoreProgram) (lines : List (List ℕ)) (ins : List StoreMap) (line : List ℕ) (i : StoreMap) → GiveInputs p lines ins → GivesInput p line i → GiveInputs p (lines ++ line ∷ []) (ins ++ i ∷ [])
+pub given_more : (p : CoreProgram) (lines : List (List ℕ)) (ins : List StoreMap) (line : List ℕ) (i : StoreMap) → GiveInputs p lines ins → GivesInput p line i → GiveInputs p (lines ++ line ∷ []) (ins ++ i ∷ [])
 given_more p [] [] line i r h = (h, tt)
 given_more p (l ∷ lines) (j ∷ ins) line i r h = (r.0, given_more p lines ins line i r.1 h)
 given_more p [] (j ∷ ins) line i r h = absurd r
 given_more p (l ∷ lines) [] line i r h = absurd r
 
-at_seam : (xs : List (List ℕ)) (y : List ℕ) (ys : List (List ℕ)) → slice_get (xs ++ y ∷ ys) (length xs) ≡ Some y
+pub at_seam : (xs : List (List ℕ)) (y : List ℕ) (ys : List (List ℕ)) → slice_get (xs ++ y ∷ ys) (length xs) ≡ Some y
 at_seam [] y ys = refl
 at_seam (x ∷ xs) y ys = at_seam xs y ys
 

@@ -19,6 +19,10 @@ AcceptedHaveOneOutput text = (p : CoreProgram) → Accepts text p → (closed : 
 abbrev pub AcceptedHaveOneRun : List ℕ → Type 0
 AcceptedHaveOneRun text = (p : CoreProgram) → Accepts text p → (ins : List StoreMap) → All (IsStore p) ins → ExactlyOne (IsRun p ins)
 
+-- the words and the bytes have an answer
+abbrev pub HaveAnswer : List (String Global) → List ℕ → Type 0
+HaveAnswer words bytes = (s : Status) × (o : List ℕ) × (e : List ℕ) × Answers words bytes s o e
+
 -- the words differ in the number of workers alone
 pub record DifferInWorkers (words others : List (String Global)) : Type 0 where
   pub front : List (List ℕ)
