@@ -10,6 +10,7 @@ pub mod Answers
 pub mod KnownInputs
 pub mod Cuts
 pub mod Completeness
+pub mod Contract
 pub mod Steps
 pub mod Ends
 pub mod Laws
