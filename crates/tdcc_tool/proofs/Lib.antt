@@ -2,7 +2,7 @@ pub mod AcceptedPrograms
 pub mod CaseAnswers
 pub mod Commands
 pub mod Counting
-pub mod CourseSteps
+pub mod StateSteps
 pub mod DeclaredLines
 pub mod GeneratedRuns
 pub mod InstantNets
@@ -14,6 +14,6 @@ pub mod TextAnswers
 pub mod Texts
 pub mod OneAnswer
 pub mod WholeRuns
-pub mod Writings
+pub mod RunTexts
 pub mod KnownInputs
 pub mod SomeAnswers

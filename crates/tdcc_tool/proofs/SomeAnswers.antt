@@ -25,10 +25,10 @@ use Rattle.expansion_laws.specs.Expansions.{IsSketchOf, IsProgramOf}
 use Rattle.expansion_laws.proofs.WholePrograms.{some_expansion, nodes_many, cells_many}
 use Rattle.tdcc_tool.specs.declared.task.Task.{Task}
 use Rattle.tdcc_tool.specs.declared.task.Task.TheVariants as tasks
-use Rattle.tdcc_tool.specs.declared.writing.Writing.{Writing}
-use Rattle.tdcc_tool.specs.declared.writing.Writing.TheVariants.{Summary}
-use Rattle.tdcc_tool.specs.Accepted.{IsBuilt}
-use Rattle.tdcc_tool.specs.Answers.{CaseAnswer, ProgramAnswer, AnswersOf, AnswersTo, IsCommand, IsNoCommand}
+use Rattle.tdcc_tool.specs.declared.output.OutputMode.{OutputMode}
+use Rattle.tdcc_tool.specs.declared.output.OutputMode.TheVariants.{Summary}
+use Rattle.tdcc_tool.specs.Accepted.{IsTextOf}
+use Rattle.tdcc_tool.specs.Answers.{CaseAnswer, ProgramAnswer, AnswersOf, AnswersTo, WordsCall, WordsCallNothing}
 use Rattle.tdcc_tool.specs.Checks.{CheckAnswer}
 use Rattle.tdcc_tool.specs.Laws.{HaveAnswer}
 use Rattle.tdcc_tool.specs.Tasks.{task_of, usual_limits}
@@ -42,7 +42,7 @@ use Rattle.tdcc_tool.proofs.SomeRuns.{split, some_run}
 
 -- the text has a core program within the limits, or a fault
 abbrev IsDecided : List ℕ → Type 0
-IsDecided text = ((p : CoreProgram) × IsBuilt text p) ⊎ ((f : ReadFault) × HasFault text f)
+IsDecided text = ((p : CoreProgram) × IsTextOf text p) ⊎ ((f : ReadFault) × HasFault text f)
 
 -- by the sketch and the core program of its surface
 decided_by : (text : List ℕ) (s : SurfaceProgram) → ReadsAs Program text s → (d : Sketch) (p : CoreProgram) → IsSketchOf s d → IsProgramOf s d p → length p.cells ≡ s.declared + length (marks d)
@@ -65,9 +65,9 @@ text_decided text = elim (verdict Program text) [ inl (s, reads) ↦ surface_dec
 -- PROGRAMS
 
 module _ (p : CoreProgram) (is : IsWellFormed p) where
-  some_program_answer : (writing : Writing) (limits : Limits) (lines : List (List ℕ)) → (s : Status) × (o : List ℕ) × (e : List ℕ) × ProgramAnswer p writing limits lines s o e
-  some_program_answer writing limits lines = elim (table_or_case p is) [
-    | inl (table, fits) ↦ let (s, o, e, answer) = some_run p is table fits writing limits lines in (s, o, e, inr (table, fits, answer))
+  some_program_answer : (mode : OutputMode) (limits : Limits) (lines : List (List ℕ)) → (s : Status) × (o : List ℕ) × (e : List ℕ) × ProgramAnswer p mode limits lines s o e
+  some_program_answer mode limits lines = elim (table_or_case p is) [
+    | inl (table, fits) ↦ let (s, o, e, answer) = some_run p is table fits mode limits lines in (s, o, e, inr (table, fits, answer))
     | inr (edge, first, none) ↦ (
         _,
         _,
@@ -104,7 +104,7 @@ module _ (p : CoreProgram) (is : IsWellFormed p) where
   ]
 
   some_answer_of : (task : Task) (bytes : List ℕ) → (s : Status) × (o : List ℕ) × (e : List ℕ) × AnswersOf task p bytes s o e
-  some_answer_of (tasks.Run writing limits) bytes = some_program_answer writing limits (lines_of (trace_of bytes))
+  some_answer_of (tasks.Run mode limits) bytes = some_program_answer mode limits (lines_of (trace_of bytes))
   some_answer_of tasks.Check bytes = some_check_answer
   some_answer_of tasks.Core bytes = (_, _, _, record { is = refl; written = refl; nothing = refl })
 
@@ -118,16 +118,16 @@ some_answer_to task bytes = elim (text_decided (program_text_of bytes)) [
 
 -- the words call a command, or none
 abbrev pub CallOrNot : List (String Global) → Type 0
-CallOrNot words = ((command : Command) × IsCommand command words) ⊎ IsNoCommand words
+CallOrNot words = ((command : Command) × WordsCall command words) ⊎ WordsCallNothing words
 
 pub call_or_not : (words : List (String Global)) (r : Option Command) → MatchOption r (words_of.IsNoCommand (map string_bytes words)) (λ command. words_of.IsCommand command (map string_bytes words)) → CallOrNot words
 call_or_not words None h = inr h
 call_or_not words (Some command) h = inl (command, h)
 
-none_answer : (words : List (String Global)) (bytes : List ℕ) → IsNoCommand words → HaveAnswer words bytes
+none_answer : (words : List (String Global)) (bytes : List ℕ) → WordsCallNothing words → HaveAnswer words bytes
 none_answer words bytes none = (_, _, _, inr (record { none = none; is = refl; nothing = refl; told = refl }))
 
-generated_answer : (words : List (String Global)) (bytes : List ℕ) (n : ℕ) → IsCommand (commands.Generate n) words → HaveAnswer words bytes
+generated_answer : (words : List (String Global)) (bytes : List ℕ) (n : ℕ) → WordsCall (commands.Generate n) words → HaveAnswer words bytes
 generated_answer words bytes n is =
     let r = generated_through n is.allowed.1 in
     let built = r.accepted.built in

@@ -19,22 +19,22 @@ use Rattle.trace_text.specs.Inputs.{GivesInput}
 use Rattle.trace_text.specs.Refusals.{RefusesLine}
 use Rattle.trace_text.specs.Laws.{IsRead}
 use Rattle.trace_text.proofs.LineDecisions.{decide_line}
-use Rattle.tdcc_tool.specs.declared.end.End.{End}
-use Rattle.tdcc_tool.specs.declared.end.End.TheVariants as ends
-use Rattle.tdcc_tool.specs.declared.writing.Writing.{Writing}
+use Rattle.tdcc_tool.specs.declared.run_end.RunEnd.{RunEnd}
+use Rattle.tdcc_tool.specs.declared.run_end.RunEnd.TheVariants as ends
+use Rattle.tdcc_tool.specs.declared.output.OutputMode.{OutputMode}
 use Rattle.tdcc_tool.specs.Answers.{GiveInputs, KeepsLimits, RunAnswer}
-use Rattle.tdcc_tool.specs.RunEnds.{leaf_count, IsBadLine, EndsAt, EndsBy, status_of, end_line}
-use Rattle.tdcc_tool.specs.Writings.{spent, ran_after, written}
-use Rattle.tdcc_tool.proofs.CourseSteps.{keeps-more}
+use Rattle.tdcc_tool.specs.RunEnds.{leaf_count_after, IsBadLine, EndsAt, EndsBy, status_of, end_line}
+use Rattle.tdcc_tool.specs.RunTexts.{spent, ran_after, written}
+use Rattle.tdcc_tool.proofs.StateSteps.{keeps-more}
 use Rattle.tdcc_tool.proofs.RunSteps.{given_long, given_more, at_seam}
-use Rattle.tdcc_tool.proofs.Writings.{spent-push}
+use Rattle.tdcc_tool.proofs.RunTexts.{spent-push}
 
 pub split : (m n : ℕ) → (m ≤ n) ⊎ (n < m)
 split m n = grind arith
 
-module _ (p : CoreProgram) (is : IsWellFormed p) (table : List ℕ) (strat : Stratifies p table) (writing : Writing) (limits : Limits) (lines : List (List ℕ)) where
+module _ (p : CoreProgram) (is : IsWellFormed p) (table : List ℕ) (strat : Stratifies p table) (mode : OutputMode) (limits : Limits) (lines : List (List ℕ)) where
   abbrev pub HasRunAnswer : Type 0
-  HasRunAnswer = (s : Status) × (o : List ℕ) × (e : List ℕ) × RunAnswer p writing limits lines s o e
+  HasRunAnswer = (s : Status) × (o : List ℕ) × (e : List ℕ) × RunAnswer p mode limits lines s o e
 
   -- a run over the lines that are done, which keeps its limits
   record SoFar (rest : List (List ℕ)) : Type 0 where
@@ -47,10 +47,10 @@ module _ (p : CoreProgram) (is : IsWellFormed p) (table : List ℕ) (strat : Str
     run : IsRun p ins outs
     within : KeepsLimits p limits outs
 
-  stopped : (rest : List (List ℕ)) (x : SoFar rest) (end : End) → EndsBy p limits lines x.outs end → HasRunAnswer
+  stopped : (rest : List (List ℕ)) (x : SoFar rest) (end : RunEnd) → EndsBy p limits lines x.outs end → HasRunAnswer
   stopped rest x end ends = (
     status_of end,
-    written writing p x.outs,
+    written mode p x.outs,
     end_line (length x.outs) end,
     record {
       ins = x.ins;
@@ -71,12 +71,12 @@ module _ (p : CoreProgram) (is : IsWellFormed p) (table : List ℕ) (strat : Str
   there line rest x =
       ap (slice_get lines) (x.run.whole ∙ given_long p x.done x.ins x.given) ∙ ap (λ (ls : List (List ℕ)). slice_get ls (length x.done)) x.parted ∙ at_seam x.done line rest
 
-  stopped_at : (line : List ℕ) (rest : List (List ℕ)) (x : SoFar (line ∷ rest)) (end : End) → EndsAt p limits x.outs line end → HasRunAnswer
+  stopped_at : (line : List ℕ) (rest : List (List ℕ)) (x : SoFar (line ∷ rest)) (end : RunEnd) → EndsAt p limits x.outs line end → HasRunAnswer
   stopped_at line rest x end at = stopped (line ∷ rest) x end (inr (line, there line rest x, at))
 
   -- one instant more
   more : (line : List ℕ) (rest : List (List ℕ)) (x : SoFar (line ∷ rest)) (i v : StoreMap) → GivesInput p line i → IsOutput p x.outs i v → length x.outs < 65536
-      → leaf_count p x.outs ≤ limits.net → spent p x.outs + ran_after p x.outs v ≤ limits.fuel → SoFar rest
+      → leaf_count_after p x.outs ≤ limits.net → spent p x.outs + ran_after p x.outs v ≤ limits.fuel → SoFar rest
   more line rest x i v given out few net fuel = record {
     done = x.done ++ line ∷ [];
     ins = x.ins ++ i ∷ [];
@@ -90,32 +90,32 @@ module _ (p : CoreProgram) (is : IsWellFormed p) (table : List ℕ) (strat : Str
 
   -- from a line on, where each run with one instant more has an answer
   module _ (line : List ℕ) (rest : List (List ℕ)) (x : SoFar (line ∷ rest)) (later : SoFar rest → HasRunAnswer) where
-    fuelled : (i : StoreMap) → GivesInput p line i → length x.outs < 65536 → leaf_count p x.outs ≤ limits.net → (v : StoreMap) → IsOutput p x.outs i v
+    fuelled : (i : StoreMap) → GivesInput p line i → length x.outs < 65536 → leaf_count_after p x.outs ≤ limits.net → (v : StoreMap) → IsOutput p x.outs i v
         → (spent p x.outs + ran_after p x.outs v ≤ limits.fuel) ⊎ (limits.fuel < spent p x.outs + ran_after p x.outs v) → HasRunAnswer
     fuelled i given few net v out (inl fits) = later (more line rest x i v given out few net fits)
     fuelled i given few net v out (inr over) =
-        stopped_at line rest x (ends.Fuel (spent p (x.outs ++ v ∷ []))) (i, record { given = given; few = few }, record { fits = net; output = v; is = out; counted = refl; over = let sum = spent-push p x.outs v in omega arith })
+        stopped_at line rest x (ends.FuelSpent (spent p (x.outs ++ v ∷ []))) (i, record { given = given; few = few }, record { fits = net; output = v; is = out; counted = refl; over = let sum = spent-push p x.outs v in omega arith })
 
-    netted : (i : StoreMap) → GivesInput p line i → length x.outs < 65536 → (leaf_count p x.outs ≤ limits.net) ⊎ (limits.net < leaf_count p x.outs) → HasRunAnswer
+    netted : (i : StoreMap) → GivesInput p line i → length x.outs < 65536 → (leaf_count_after p x.outs ≤ limits.net) ⊎ (limits.net < leaf_count_after p x.outs) → HasRunAnswer
     netted i given few (inl fits) =
         let out = has_output p table is strat x.outs i given.input.store in
         fuelled i given few fits out.0 out.1 (split (spent p x.outs + ran_after p x.outs out.0) limits.fuel)
-    netted i given few (inr over) = stopped_at line rest x (ends.Net (leaf_count p x.outs)) (i, record { given = given; few = few }, record { counted = refl; over = over })
+    netted i given few (inr over) = stopped_at line rest x (ends.NetFull (leaf_count_after p x.outs)) (i, record { given = given; few = few }, record { counted = refl; over = over })
 
     read : length x.outs < 65536 → IsRead p line → HasRunAnswer
-    read few (inl (i, given)) = netted i given few (split (leaf_count p x.outs) limits.net)
-    read few (inr (f, says, refused)) = stopped_at line rest x (ends.Line f) (record { refused = refused; says = says; due = inl few })
+    read few (inl (i, given)) = netted i given few (split (leaf_count_after p x.outs) limits.net)
+    read few (inr (f, says, refused)) = stopped_at line rest x (ends.BadLine f) (record { refused = refused; says = says; due = inl few })
 
     last : length line ≤ 32768 → (65536 ≤ length x.outs) ⊎ (length x.outs < 65536) → HasRunAnswer
-    last short (inl full) = stopped_at line rest x ends.Many (short, let few = x.few in let w = x.run.whole in let all : length x.outs ≡ 65536 = omega arith in all)
+    last short (inl full) = stopped_at line rest x ends.TooManyLines (short, let few = x.few in let w = x.run.whole in let all : length x.outs ≡ 65536 = omega arith in all)
     last short (inr few) = read few (decide_line p line)
 
     from_line : (length line ≤ 32768) ⊎ (32768 < length line) → HasRunAnswer
     from_line (inl short) = last short (split 65536 (length x.outs))
-    from_line (inr over) = stopped_at line rest x (ends.Line faults.LineTooLong) (record { refused = over; says = λ same. cc; due = inr refl })
+    from_line (inr over) = stopped_at line rest x (ends.BadLine faults.LineTooLong) (record { refused = over; says = λ same. cc; due = inr refl })
 
   go : (rest : List (List ℕ)) → SoFar rest → HasRunAnswer
-  go [] x = stopped [] x ends.Whole (inl (refl, x.run.whole ∙ given_long p x.done x.ins x.given ∙ ap length (sym (append-nil x.done) ∙ sym x.parted)))
+  go [] x = stopped [] x ends.Completed (inl (refl, x.run.whole ∙ given_long p x.done x.ins x.given ∙ ap length (sym (append-nil x.done) ∙ sym x.parted)))
   go (line ∷ rest) x = from_line line rest x (go rest) (split (length line) 32768)
 
   -- a trace has an answer

@@ -7,10 +7,10 @@ use Rattle.tdcc_base.specs.Causes.{Rose}
 use Rattle.tdcc_base.specs.Written.{WritesUntilFault}
 use Rattle.tdcc_base.specs.declared.status.Status.{Status}
 use Rattle.tdcc_base.specs.declared.status.Status.TheVariants.{Ok, Usage, Read, Write}
-use Rattle.tdcc_tool.specs.Answers.{Answers, IsCommand, IsNoCommand}
-use Rattle.tdcc_tool.specs.Completeness.{IsRunnable, EndsWhole, IsRoomFor}
-use Rattle.tdcc_tool.specs.Cuts.{CutsOut, own_line}
-use Rattle.tdcc_tool.specs.Ends.{IsSettled, IsToolStatus}
+use Rattle.tdcc_tool.specs.Answers.{Answers, WordsCall, WordsCallNothing}
+use Rattle.tdcc_tool.specs.Completeness.{IsRunnable, EndsWhole, FitsInto}
+use Rattle.tdcc_tool.specs.Cuts.{LeavesAfterFault, fixed_line}
+use Rattle.tdcc_tool.specs.Statuses.{IsComplete, IsToolStatus}
 use Rattle.tdcc_tool.specs.KnownInputs.{MayHave}
 use Rattle.tdcc_tool.specs.Tasks.{IsGenerated, ReadsTrace}
 
@@ -36,19 +36,19 @@ pub record IsAnswered (words : List (String Global)) (bytes : List ℕ) (status 
 
 -- a call with these words may answer this status, where its source, out and err tell this before it and that after it
 pub record KeepsContract (words : List (String Global)) (status : Status) (source source' : SourceState) (out out' err err' : SinkState) : Type 0 where
-  pub answer : IsSettled status → (bytes : List ℕ) → MayHave words source.left bytes → IsAnswered words bytes status out out' err err'
-  pub cut_out : (bytes given : List ℕ) → MayHave words source.left bytes → Consumes source.left source'.left given → CutsOut status words bytes given out.written out'.written
-  pub no_trace : (command : Command) → IsCommand command words → ¬ ReadsTrace command → status ≡ Read → out' ≡ out
-  pub own_line : IfSome (own_line status) (λ line. WritesUntilFault err.written err'.written err.faults err'.faults line)
+  pub answer : IsComplete status → (bytes : List ℕ) → MayHave words source.left bytes → IsAnswered words bytes status out out' err err'
+  pub cut_out : (bytes given : List ℕ) → MayHave words source.left bytes → Consumes source.left source'.left given → LeavesAfterFault status words bytes given out.written out'.written
+  pub no_trace : (command : Command) → WordsCall command words → ¬ ReadsTrace command → status ≡ Read → out' ≡ out
+  pub fixed_line : IfSome (fixed_line status) (λ line. WritesUntilFault err.written err'.written err.faults err'.faults line)
   pub read : status ≡ Read → Rose source.faults source'.faults
   pub write : status ≡ Write → Rose out.faults out'.faults
   pub whole : IfSome source.left (λ bytes. IsRunnable words bytes → EndsWhole status (Rose source.faults source'.faults) (Rose out.faults out'.faults))
   pub steady : IsTrue source.steady → status ≡ Read → ⊥
-  pub roomy : (bytes : List ℕ) (s : Status) (o e : List ℕ) → MayHave words source.left bytes → Answers words bytes s o e → IsRoomFor out.room o → status ≡ Write → ⊥
-  pub generated_whole : (command : Command) → IsCommand command words → IsGenerated command → EndsWhole status ⊥ (Rose out.faults out'.faults)
-  pub usage : IsNoCommand words ↔ (status ≡ Usage)
+  pub roomy : (bytes : List ℕ) (s : Status) (o e : List ℕ) → MayHave words source.left bytes → Answers words bytes s o e → FitsInto o out.room → status ≡ Write → ⊥
+  pub generated_whole : (command : Command) → WordsCall command words → IsGenerated command → EndsWhole status ⊥ (Rose out.faults out'.faults)
+  pub usage : WordsCallNothing words ↔ (status ≡ Usage)
   pub usage_source : status ≡ Usage → source' ≡ source
   pub usage_out : status ≡ Usage → out' ≡ out
-  pub ended : (command : Command) → IsCommand command words → ReadsTrace command → status ≡ Ok → OnSome source.left (source'.left ≡ Some [])
-  pub generated : (command : Command) → IsCommand command words → IsGenerated command → source' ≡ source
+  pub ended : (command : Command) → WordsCall command words → ReadsTrace command → status ≡ Ok → OnSome source.left (source'.left ≡ Some [])
+  pub generated : (command : Command) → WordsCall command words → IsGenerated command → source' ≡ source
   pub statuses : IsToolStatus status

@@ -2,23 +2,22 @@
 #![tactic(auto)]
 
 mod answer;
-mod answering;
-mod checking;
-mod course;
-mod end;
+mod check;
+mod dispatch;
 mod generated;
 mod instant;
 mod laws;
 mod messages;
-mod reading;
-mod run;
-mod running;
+mod output;
+mod program_text;
+mod run_end;
+mod run_state;
 mod summary;
 mod task;
 #[cfg(test)]
 mod tests;
 mod top;
-mod writing;
+mod trace;
 
 pub use laws::{answer_law, output_law, workers_law};
 pub use top::tdcc;
