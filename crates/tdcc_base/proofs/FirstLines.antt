@@ -73,7 +73,7 @@ IsFirstLine-last bytes (x ∷ line) f some e = record {
 
 -- WHAT A LINE THAT WAS TAKEN IS
 
-pub line_at_feed : (old new : Option (List ℕ)) (after : List ℕ) (limit : ℕ) → AppendsLine old new [] after limit (Ok breaks.Feed) → length after ≤ 32768 → ReadsLine old new after (Ok ends.Line)
+pub line_at_feed : (old new : Option (List ℕ)) (after : List ℕ) (limit : ℕ) → AppendsLine old new [] after limit (Ok breaks.Feed) → length after ≤ limit → ReadsLine limit old new after (Ok ends.Line)
 line_at_feed None new after limit a short = tt
 line_at_feed (Some bytes) None after limit a short = absurd a.taken
 line_at_feed (Some bytes) (Some rest) after limit a short =
@@ -81,7 +81,7 @@ line_at_feed (Some bytes) (Some rest) after limit a short =
     let whole : bytes ≡ after ++ 10 ∷ rest = subst (λ (xs : List ℕ). bytes ≡ xs ++ 10 ∷ rest) (sym a.appended) (a.taken ∙ append_assoc a.line (10 ∷ []) rest) in
     (rest, IsFirstLine-feed bytes after rest line whole, short, refl)
 
-pub line_at_end : (old new : Option (List ℕ)) (after : List ℕ) (limit : ℕ) → AppendsLine old new [] after limit (Ok breaks.End) → after ≢ [] → length after ≤ 32768 → ReadsLine old new after (Ok ends.Line)
+pub line_at_end : (old new : Option (List ℕ)) (after : List ℕ) (limit : ℕ) → AppendsLine old new [] after limit (Ok breaks.End) → after ≢ [] → length after ≤ limit → ReadsLine limit old new after (Ok ends.Line)
 line_at_end None new after limit a some short = tt
 line_at_end (Some bytes) None after limit a some short = absurd a.taken.0
 line_at_end (Some bytes) (Some rest) after limit a some short =
@@ -89,17 +89,17 @@ line_at_end (Some bytes) (Some rest) after limit a some short =
     let whole : bytes ≡ after = a.taken.0 ∙ ap (λ ys. a.line ++ ys) a.taken.1 ∙ append-nil a.line ∙ sym a.appended in
     ([], IsFirstLine-last bytes after line some whole, short, ap Some a.taken.1)
 
-pub none_at_end : (old new : Option (List ℕ)) (after : List ℕ) (limit : ℕ) → AppendsLine old new [] after limit (Ok breaks.End) → after ≡ [] → ReadsLine old new after (Ok ends.End)
+pub none_at_end : (old new : Option (List ℕ)) (after : List ℕ) (limit : ℕ) → AppendsLine old new [] after limit (Ok breaks.End) → after ≡ [] → ReadsLine limit old new after (Ok ends.End)
 none_at_end None new after limit a none = tt
 none_at_end (Some bytes) None after limit a none = absurd a.taken.0
 none_at_end (Some bytes) (Some rest) after limit a none =
     (a.taken.0 ∙ ap (λ ys. a.line ++ ys) a.taken.1 ∙ append-nil a.line ∙ sym a.appended ∙ none, ap Some a.taken.1)
 
-pub line_stop : (old new : Option (List ℕ)) (after : List ℕ) (stop : ReadStop) → AppendsLine old new [] after 32768 (Err stop) → ReadsLine old new after (Err stop)
-line_stop None new after stop a = tt
-line_stop (Some bytes) new after stops.Read a = (subst (Consumes (Some bytes) new) (sym a.appended) a.taken, subst HasNoFeed (sym a.appended) a.no_feed)
-line_stop (Some bytes) None after stops.TooLong a = absurd a.taken.2
-line_stop (Some bytes) (Some rest) after stops.TooLong a =
+pub line_stop : (old new : Option (List ℕ)) (after : List ℕ) (limit : ℕ) (stop : ReadStop) → AppendsLine old new [] after limit (Err stop) → ReadsLine limit old new after (Err stop)
+line_stop None new after limit stop a = tt
+line_stop (Some bytes) new after limit stops.Read a = (subst (Consumes (Some bytes) new) (sym a.appended) a.taken, subst HasNoFeed (sym a.appended) a.no_feed)
+line_stop (Some bytes) None after limit stops.TooLong a = absurd a.taken.2
+line_stop (Some bytes) (Some rest) after limit stops.TooLong a =
     let b : ℕ = a.taken.0 in
     let whole : bytes ≡ a.line ++ b ∷ rest = a.taken.2 ∙ append_assoc a.line (b ∷ []) rest in
     let first : first_line bytes ≡ a.line ++ b ∷ first_line rest =

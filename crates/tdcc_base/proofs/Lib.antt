@@ -1,8 +1,10 @@
 pub mod Known
 pub mod LineSteps
+pub mod ReadSteps
 pub mod FirstLines
 pub mod Splits
 pub mod WholeLines
 pub mod TextEnds
+pub mod TextReads
 pub mod PieceSteps
 pub mod SureRooms

@@ -4,6 +4,7 @@ use Rattle.std.specs.Prelude.{Option, Some, None, Ok, Err}
 use Rattle.std.specs.Io.KnownBytes.{Consumes, IsAtEnd}
 use Rattle.std.proofs.lemmas.List.{append-nil, drop_at, take_at}
 use Rattle.std.proofs.lemmas.List.Elements.{All-append, All-cons, All-nil}
+use Rattle.tdcc_base.specs.Limits.{longest_text, room_for_text}
 use Rattle.tdcc_base.specs.Lines.{HasNoFeed, first_line, after_line, lines_of}
 use Rattle.tdcc_base.specs.Texts.{is_mark, HasNoMark, AreWholeLines, Split, behind, split_from, program_text_of, trace_of, ReadsText, IsTextRead}
 use Rattle.tdcc_base.specs.Unread.{AppendsLine}
@@ -62,7 +63,7 @@ text_begins (x ∷ line) rest f long =
 
 module _ (done : List ℕ) (front : IsTextFront done) where
   pub IsTextRead-mark : (bytes tail line rest : List ℕ) → bytes ≡ done ++ tail → first_line tail ≡ line → after_line tail ≡ rest → is_mark line ≡ true
-      → (bytes ≡ done ++ line ++ 10 ∷ rest) ⊎ ((bytes ≡ done ++ line) × (rest ≡ [])) → length done ≤ 65536 → IsTextRead bytes (Some rest) done ends.Mark
+      → (bytes ≡ done ++ line ++ 10 ∷ rest) ⊎ ((bytes ≡ done ++ line) × (rest ≡ [])) → length done ≤ longest_text → IsTextRead bytes (Some rest) done ends.Mark
   IsTextRead-mark bytes tail line rest whole first after m parts few =
       let s : split_from true bytes ≡ behind done (at_mark tail) =
       ap (split_from true) whole ∙ split_from-whole done tail front.whole front.no_mark ∙ ap (behind done) (split_from-mark tail (subst (λ (xs : List ℕ). is_mark xs ≡ true) (sym first) m)) in
@@ -81,7 +82,7 @@ module _ (done : List ℕ) (front : IsTextFront done) where
         short = few;
       }
 
-  pub IsTextRead-end : (bytes line : List ℕ) → bytes ≡ done ++ line → HasNoFeed line → is_mark line ≡ false → length (done ++ line) ≤ 65536 → IsTextRead bytes (Some []) (done ++ line) ends.End
+  pub IsTextRead-end : (bytes line : List ℕ) → bytes ≡ done ++ line → HasNoFeed line → is_mark line ≡ false → length (done ++ line) ≤ longest_text → IsTextRead bytes (Some []) (done ++ line) ends.End
   IsTextRead-end bytes line whole f m few =
       let s : split_from true bytes ≡ behind done (all_text line) = ap (split_from true) whole ∙ split_from-whole done line front.whole front.no_mark ∙ ap (behind done) (split_from-last line f m) in
       let trace : trace_of bytes ≡ [] = ap (λ (x : Split). x.trace) s in
@@ -94,18 +95,18 @@ module _ (done : List ℕ) (front : IsTextFront done) where
         short = few;
       }
 
-  long_at_end : (bytes line : List ℕ) → bytes ≡ done ++ line → HasNoFeed line → is_mark line ≡ false → 65536 < length (done ++ line) → 65536 < length (program_text_of bytes)
+  long_at_end : (bytes line : List ℕ) → bytes ≡ done ++ line → HasNoFeed line → is_mark line ≡ false → longest_text < length (done ++ line) → longest_text < length (program_text_of bytes)
   long_at_end bytes line whole f m long =
       let is : program_text_of bytes ≡ done ++ line = ap (λ (x : Split). x.text) (ap (split_from true) whole ∙ split_from-whole done line front.whole front.no_mark ∙ ap (behind done) (split_from-last line f m)) in
       rw is long
 
-  long_at_feed : (bytes line rest : List ℕ) → bytes ≡ done ++ (line ++ 10 ∷ rest) → HasNoFeed line → is_mark line ≡ false → 65536 ≤ length (done ++ line) → 65536 < length (program_text_of bytes)
+  long_at_feed : (bytes line rest : List ℕ) → bytes ≡ done ++ (line ++ 10 ∷ rest) → HasNoFeed line → is_mark line ≡ false → longest_text ≤ length (done ++ line) → longest_text < length (program_text_of bytes)
   long_at_feed bytes line rest whole f m long =
       let no : is_mark (first_line (line ++ 10 ∷ rest)) ≡ false = subst (λ (xs : List ℕ). is_mark xs ≡ false) (sym (first_line-feed line rest f)) m in
       let is : program_text_of bytes ≡ done ++ ((line ++ 10 ∷ []) ++ program_text_of rest) = ap (λ (x : Split). x.text) (ap (split_from true) whole ∙ split_from-whole done (line ++ 10 ∷ rest) front.whole front.no_mark ∙ ap (behind done) (split_from-feed line rest f no)) in
       omega (arith, ap length is, length-append done ((line ++ 10 ∷ []) ++ program_text_of rest), length-append (line ++ 10 ∷ []) (program_text_of rest), length-append line (10 ∷ []), length-append done line)
 
-  long_at_byte : (bytes line rest : List ℕ) → bytes ≡ done ++ (line ++ rest) → HasNoFeed line → 3 < length line → 65536 < length (done ++ line) → 65536 < length (program_text_of bytes)
+  long_at_byte : (bytes line rest : List ℕ) → bytes ≡ done ++ (line ++ rest) → HasNoFeed line → 3 < length line → longest_text < length (done ++ line) → longest_text < length (program_text_of bytes)
   long_at_byte bytes line rest whole f far long =
       let is : program_text_of bytes ≡ done ++ program_text_of (line ++ rest) = ap (λ (x : Split). x.text) (ap (split_from true) whole ∙ split_from-whole done (line ++ rest) front.whole front.no_mark) in
       omega (arith, ap length is, length-append done (program_text_of (line ++ rest)), text_begins line rest f far, length-append done line)
@@ -128,7 +129,7 @@ tail_of : (done line after : List ℕ) → after ≡ done ++ line → drop (leng
 tail_of done line after e = ap (drop (length done)) e ∙ drop_at done line (length done) refl
 
 module _ (old mid new : Option (List ℕ)) (done after : List ℕ) (front : IsTextFront done) (taken : Consumes old mid done) where
-  pub text_at_mark : (brk : LineBreak) (limit : ℕ) → AppendsLine mid new done after limit (Ok brk) → is_mark (drop (length done) after) ≡ true → length done ≤ 65536 → ReadsText old new done (Ok ends.Mark)
+  pub text_at_mark : (brk : LineBreak) (limit : ℕ) → AppendsLine mid new done after limit (Ok brk) → is_mark (drop (length done) after) ≡ true → length done ≤ longest_text → ReadsText old new done (Ok ends.Mark)
   text_at_mark breaks.Feed limit a m few = at_feed old new (Consumes-then old mid new done (a.line ++ 10 ∷ []) taken a.taken)
     where
       mark : is_mark a.line ≡ true
@@ -157,7 +158,7 @@ module _ (old mid new : Option (List ℕ)) (done after : List ℕ) (front : IsTe
   no_mark : (brk : LineBreak) (limit : ℕ) (a : AppendsLine mid new done after limit (Ok brk)) → is_mark (drop (length done) after) ≡ false → is_mark a.line ≡ false
   no_mark brk limit a m = subst (λ (xs : List ℕ). is_mark xs ≡ false) (tail_of done a.line after a.appended) m
 
-  pub text_at_end : (limit : ℕ) → AppendsLine mid new done after limit (Ok breaks.End) → is_mark (drop (length done) after) ≡ false → length after ≤ 65536 → ReadsText old new after (Ok ends.End)
+  pub text_at_end : (limit : ℕ) → AppendsLine mid new done after limit (Ok breaks.End) → is_mark (drop (length done) after) ≡ false → length after ≤ longest_text → ReadsText old new after (Ok ends.End)
   text_at_end limit a m few = at_end old new (Consumes-then old mid new done a.line taken a.taken.0) a.taken.1
     where
       at_end : (old new : Option (List ℕ)) → Consumes old new (done ++ a.line) → IsAtEnd new → ReadsText old new after (Ok ends.End)
@@ -165,11 +166,11 @@ module _ (old mid new : Option (List ℕ)) (done after : List ℕ) (front : IsTe
       at_end (Some bytes) None c e = absurd c
       at_end (Some bytes) (Some rest) c e =
           let whole : bytes ≡ done ++ a.line = c ∙ ap (λ ys. (done ++ a.line) ++ ys) e ∙ append-nil (done ++ a.line) in
-          let short : length (done ++ a.line) ≤ 65536 = subst (λ (xs : List ℕ). length xs ≤ 65536) a.appended few in
+          let short : length (done ++ a.line) ≤ longest_text = subst (λ (xs : List ℕ). length xs ≤ longest_text) a.appended few in
           subst (λ (xs : List ℕ). IsTextRead bytes (Some xs) after ends.End) (sym e)
           (subst (λ (xs : List ℕ). IsTextRead bytes (Some []) xs ends.End) (sym a.appended) (IsTextRead-end done front bytes a.line whole a.no_feed (no_mark breaks.End limit a m) short))
 
-  pub text_too_long : (brk : LineBreak) (limit : ℕ) → AppendsLine mid new done after limit (Ok brk) → is_mark (drop (length done) after) ≡ false → 65536 < length after + feed_of brk → ReadsText old new after (Err stops.TooLong)
+  pub text_too_long : (brk : LineBreak) (limit : ℕ) → AppendsLine mid new done after limit (Ok brk) → is_mark (drop (length done) after) ≡ false → longest_text < length after + feed_of brk → ReadsText old new after (Err stops.TooLong)
   text_too_long breaks.Feed limit a m long = at_feed old new (Consumes-then old mid new done (a.line ++ 10 ∷ []) taken a.taken)
     where
       at_feed : (old new : Option (List ℕ)) → Consumes old new (done ++ (a.line ++ 10 ∷ [])) → ReadsText old new after (Err stops.TooLong)
@@ -190,7 +191,7 @@ module _ (old mid new : Option (List ℕ)) (done after : List ℕ) (front : IsTe
             ([], omega arith, subst (λ (xs : List ℕ). bytes ≡ (xs ++ []) ++ rest) (sym a.appended) (c ∙ ap (λ xs. xs ++ rest) (sym (append-nil (done ++ a.line))))),
           )
 
-  pub text_stop : (stop : ReadStop) → AppendsLine mid new done after 65539 (Err stop) → length done ≤ 65536 → ReadsText old new after (Err stop)
+  pub text_stop : (stop : ReadStop) → AppendsLine mid new done after room_for_text (Err stop) → length done ≤ longest_text → ReadsText old new after (Err stop)
   text_stop stops.Read a few = at_fault old new (Consumes-then old mid new done a.line taken a.taken)
     where
       at_fault : (old new : Option (List ℕ)) → Consumes old new (done ++ a.line) → ReadsText old new after (Err stops.Read)
@@ -210,7 +211,7 @@ module _ (old mid new : Option (List ℕ)) (done after : List ℕ) (front : IsTe
       size : length longer ≡ length a.line + 1
       size = length-append a.line (a.taken.0 ∷ [])
 
-      full : length done + length a.line ≡ 65539
+      full : length done + length a.line ≡ room_for_text
       full = sym (length-append done a.line) ∙ sym (ap length a.appended) ∙ a.taken.3
 
       at_byte : (old new : Option (List ℕ)) → Consumes old new (done ++ longer) → ReadsText old new after (Err stops.TooLong)

@@ -1,8 +1,10 @@
 -- What a source in memory has left: pieces of bytes. This project's own.
-use Rattle.std.specs.Prelude.{◌≡◌, ℕ, ◌<◌, min, List, [], ◌∷◌, Vec, length, drop, map}
+use Rattle.std.specs.Prelude.{◌≡◌, ℕ, ◌<◌, ◌↔◌, min, List, [], ◌∷◌, Vec, length, drop, map, Result, IfOk, OnErr, IsErr}
 use Rattle.std.specs.declared.alloc.Global.{Global}
 use Rattle.tdcc_base.specs.declared.memory_source.MemSource.{MemSource}
 use Rattle.tdcc_base.specs.declared.calls.Calls.{Calls}
+use Rattle.tdcc_base.specs.declared.outside.Failed.{Failed}
+use Rattle.tdcc_base.specs.Calls.{IsListed, Counted}
 
 -- the bytes of each piece
 abbrev pub chunk_bytes : List (Vec ℕ Global) → List (List ℕ)
@@ -40,3 +42,10 @@ BeginsWithin given (piece ∷ pieces) = given < length piece.items
 -- the source stands at a piece that has some bytes left, or behind the last piece
 abbrev pub AtPiece : MemSource → Type 0
 AtPiece source = BeginsWithin source.given (drop source.place source.pieces.items)
+
+-- what one read of a source in memory does: it fails exactly where its call is listed, and else gives of the first piece
+pub record GivesNext (old : MemSource) (lent : List ℕ) (answer : Result ℕ Failed) (new : MemSource) : Type 0 where
+  pub fails : IsErr answer ↔ IsListed (source_calls old)
+  pub counts : Counted (source_calls old) (source_calls new) answer
+  pub gives : IfOk answer (λ n. GivesOf (pieces_left old) (pieces_left new) (length lent) n)
+  pub kept : OnErr answer (pieces_left new ≡ pieces_left old)

@@ -1,3 +1,5 @@
+pub mod Limits
+pub mod Own
 pub mod Causes
 pub mod Promises
 pub mod Written
@@ -8,4 +10,5 @@ pub mod Statuses
 pub mod Lines
 pub mod Texts
 pub mod Unread
+pub mod Reads
 pub mod Waiting

@@ -45,10 +45,10 @@ pub record IsFirstLine (bytes line rest : List ℕ) : Type 0 where
 abbrev pub ConsumesOneMore : Option (List ℕ) → Option (List ℕ) → List ℕ → Type 0
 ConsumesOneMore old new bytes = (more : List ℕ) × (length more ≤ 1) × Consumes old new (bytes ++ more)
 
--- A line was read, where the bytes are known. After a fault a prefix of the line was taken, and no more.
-abbrev pub ReadsLine : Option (List ℕ) → Option (List ℕ) → List ℕ → Result LineEnd ReadStop → Type 0
-ReadsLine None new line result = Unit {0}
-ReadsLine (Some bytes) new line (Ok ends.Line) = (rest : List ℕ) × IsFirstLine bytes line rest × (length line ≤ 32768) × (new ≡ Some rest)
-ReadsLine (Some bytes) new line (Ok ends.End) = (bytes ≡ []) × (new ≡ Some [])
-ReadsLine (Some bytes) new line (Err stops.TooLong) = (32768 < length (first_line bytes)) × ConsumesOneMore (Some bytes) new line
-ReadsLine (Some bytes) new line (Err stops.Read) = Consumes (Some bytes) new line × HasNoFeed line
+-- A line was read that may have so many bytes, where the bytes are known. After a fault a prefix of the line was taken, and no more.
+abbrev pub ReadsLine : ℕ → Option (List ℕ) → Option (List ℕ) → List ℕ → Result LineEnd ReadStop → Type 0
+ReadsLine limit None new line result = Unit {0}
+ReadsLine limit (Some bytes) new line (Ok ends.Line) = (rest : List ℕ) × IsFirstLine bytes line rest × (length line ≤ limit) × (new ≡ Some rest)
+ReadsLine limit (Some bytes) new line (Ok ends.End) = (bytes ≡ []) × (new ≡ Some [])
+ReadsLine limit (Some bytes) new line (Err stops.TooLong) = (limit < length (first_line bytes)) × ConsumesOneMore (Some bytes) new line
+ReadsLine limit (Some bytes) new line (Err stops.Read) = Consumes (Some bytes) new line × HasNoFeed line

@@ -5,6 +5,7 @@ use Rattle.tdcc_base.specs.declared.stops.TextEnd.{TextEnd}
 use Rattle.tdcc_base.specs.declared.stops.TextEnd.TheVariants as ends
 use Rattle.tdcc_base.specs.declared.stops.ReadStop.{ReadStop}
 use Rattle.tdcc_base.specs.declared.stops.ReadStop.TheVariants as stops
+use Rattle.tdcc_base.specs.Limits.{longest_text}
 use Rattle.tdcc_base.specs.Lines.{HasNoFeed, first_line, after_line, lines_of, ConsumesOneMore}
 
 -- two percent signs, and it may be a carriage return
@@ -70,7 +71,7 @@ pub record IsTextRead (bytes : List ℕ) (new : Option (List ℕ)) (text : List 
   pub is_text : text ≡ program_text_of bytes
   pub trace : new ≡ Some (trace_of bytes)
   pub is_end : end ≡ end_of bytes
-  pub short : length text ≤ 65536
+  pub short : length text ≤ longest_text
 
 -- whole lines of which none is a mark, and a prefix of the line behind them
 pub record IsTextSoFar (bytes : List ℕ) : Type 0 where
@@ -85,5 +86,5 @@ pub record IsTextSoFar (bytes : List ℕ) : Type 0 where
 abbrev pub ReadsText : Option (List ℕ) → Option (List ℕ) → List ℕ → Result TextEnd ReadStop → Type 0
 ReadsText None new text result = Unit {0}
 ReadsText (Some bytes) new text (Ok end) = IsTextRead bytes new text end
-ReadsText (Some bytes) new text (Err stops.TooLong) = (65536 < length (program_text_of bytes)) × ConsumesOneMore (Some bytes) new text
+ReadsText (Some bytes) new text (Err stops.TooLong) = (longest_text < length (program_text_of bytes)) × ConsumesOneMore (Some bytes) new text
 ReadsText (Some bytes) new text (Err stops.Read) = Consumes (Some bytes) new text × IsTextSoFar text

@@ -1,10 +1,14 @@
 -- What `Lines` are over: a source, and what was read of it. This project's own.
-use Rattle.std.specs.Prelude.{◌≡◌, ℕ, false, List, [], Option, None}
+use Rattle.std.specs.Prelude.{◌≡◌, ℕ, false, List, [], Option, None, Result}
 use Rattle.std.specs.Borrow.{GName}
+use Rattle.tdcc_base.specs.declared.outside.Failed.{Failed}
+use Rattle.tdcc_base.specs.declared.stops.LineEnd.{LineEnd}
+use Rattle.tdcc_base.specs.declared.stops.TextEnd.{TextEnd}
 use Rattle.tdcc_base.specs.declared.stops.ReadStop.{ReadStop}
 use Rattle.tdcc_base.specs.declared.buffers.Buffers.{Buffers}
 use Rattle.tdcc_base.specs.declared.lines.Lines.{Lines}
-use Rattle.tdcc_base.specs.Unread.{unread, IsReady, IsOver, IsDrained, StaysEnded}
+use Rattle.tdcc_base.specs.Reads.{ReadsForLine, ReadsForText}
+use Rattle.tdcc_base.specs.Unread.{pending, unread, IsReady, IsOver, IsDrained, StaysEnded}
 
 -- nothing was read into the buffers yet
 pub record IsUnused (buffers : Buffers) : Type 0 where
@@ -24,6 +28,10 @@ reference_of lines = lines.source.ghost_name
 abbrev pub waiting : {S : Type 0} → (S → Option (List ℕ)) → Lines S Buffers → Option (List ℕ)
 waiting left lines = unread left lines.buffers.ahead lines.source.now
 
+-- the bytes that were taken from the source and are not yet handed out
+abbrev pub held_back : {S : Type 0} → Lines S Buffers → List ℕ
+held_back lines = pending lines.buffers.ahead
+
 -- the text that was read
 abbrev pub text_read : {S : Type 0} → Lines S Buffers → List ℕ
 text_read lines = lines.buffers.text.items
@@ -31,6 +39,10 @@ text_read lines = lines.buffers.text.items
 -- the line that was read last
 abbrev pub line_read : {S : Type 0} → Lines S Buffers → List ℕ
 line_read lines = lines.buffers.line.items
+
+-- how many bytes a line may have
+abbrev pub limit_of : {S : Type 0} → Lines S Buffers → ℕ
+limit_of lines = lines.buffers.limit
 
 -- the stop that was answered
 abbrev pub stop_of : {S : Type 0} → Lines S Buffers → Option ReadStop
@@ -66,3 +78,13 @@ pub record Opens {S : Type 0} (left : S → Option (List ℕ)) (source : S) (lin
   pub same : source_of lines ≡ source
   pub first : IsFirst left lines
   pub all : waiting left lines ≡ left source
+
+-- the reads of a call that reads a line and answers so; `gives` says what one read may do
+abbrev pub MakesLineReads : {S : Type 0} → (S → List ℕ → Result ℕ Failed → S → Type 0) → Lines S Buffers → Lines S Buffers → Result LineEnd ReadStop → Type 0
+MakesLineReads gives old new result =
+    ReadsForLine gives (limit_of old) (line_read new) result old.buffers.ahead new.buffers.ahead (source_of old) (source_of new)
+
+-- the reads of a call that reads a text and answers so
+abbrev pub MakesTextReads : {S : Type 0} → (S → List ℕ → Result ℕ Failed → S → Type 0) → Lines S Buffers → Lines S Buffers → Result TextEnd ReadStop → Type 0
+MakesTextReads gives old new result =
+    ReadsForText gives (text_read new) result old.buffers.ahead new.buffers.ahead (source_of old) (source_of new)

@@ -1,51 +1,49 @@
-ghost use Rattle.std.specs.Prelude.{◌≡◌, ◌≤◌, Ok, Err, Some, IfOk, IfSome, IsNone, IsErrOf, [], length, drop, vec_len, vec_capacity};
+ghost use Rattle.std.specs.Prelude.{◌≡◌, ◌<◌, ◌≤◌, Ok, Err, Some, IfOk, IfSome, IsNone, IsErrOf, [], length, drop, vec_len, vec_capacity};
 ghost use Rattle.std.specs.Result.{result_err};
-ghost use Rattle.tdcc_base.specs.Causes.{Rose};
+ghost use Rattle.tdcc_base.specs.Causes.{HasReadCause, Rose};
+ghost use Rattle.tdcc_base.specs.Limits.{longest_text, read_size, room_for_text};
 ghost use Rattle.tdcc_base.specs.Promises.{StaysSteady};
 ghost use Rattle.tdcc_base.specs.Texts.{is_mark};
 
+use crate::limits::{LONGEST_TEXT, TEXT_ROOM};
 use crate::outside::{Memory, Source};
 use crate::read_ahead::{LineBreak, ReadAhead, push_within};
 use crate::stops::{LineEnd, ReadStop, TextEnd};
 use std::alloc::Global;
 
-/// The greatest number of bytes of a line, without its line feed.
-const LINE_LIMIT: usize = 32_768;
-
-/// The greatest number of bytes of a text.
-const TEXT_LIMIT: usize = 65_536;
-
-/// Room for a text, and for a mark behind it.
-const TEXT_ROOM: usize = 65_539;
-
-/// What was read of a source and is not handed out yet, and room for a text and a line.
+/// What was read of a source and is not handed out yet, and room for a text and for a line within the limit.
 #[derive(Drop)]
 pub struct Buffers {
     ahead: ReadAhead,
     stop: Option<ReadStop>,
     text: Vec<u8>,
     line: Vec<u8>,
-    ghost text_room: { 65539 ≤ vec_capacity text },
-    ghost line_room: { 32768 ≤ vec_capacity line },
+    limit: usize,
+    ghost text_room: { room_for_text ≤ vec_capacity text },
+    ghost line_room: { limit ≤ vec_capacity line },
 }
 
 impl Buffers {
-    ghost use Rattle.tdcc_base.specs.Unread.{unread, IsReady, IsOver, IsDrained, StaysEnded};
+    ghost use Rattle.tdcc_base.specs.Unread.{pending, unread, IsReady, IsOver, IsDrained, StaysEnded};
     ghost use Rattle.tdcc_base.specs.Waiting.{IsUnused};
-    ghost use Rattle.tdcc_base.specs.Lines.{ReadsLine};
+    ghost use Rattle.tdcc_base.specs.Lines.{HasNoFeed, ReadsLine};
+    ghost use Rattle.tdcc_base.specs.Reads.{ReadsForLine, ReadsForText};
     ghost use Rattle.tdcc_base.specs.Texts.{ReadsText};
 
-    pub(crate) fn new(alloc: Global) -> Result<Buffers, Memory>
-        ensures { IfOk result IsUnused }
+    /// Nothing read yet. A line may have as many bytes as the limit says.
+    pub(crate) fn new(alloc: Global, limit: usize) -> Result<Buffers, Memory>
+        ensures fresh { IfOk result IsUnused }
+        ensures limit { IfOk result (λ buffers. buffers.limit ≡ limit) }
     {
         let ahead = ReadAhead::new(alloc)?;
         let text = Vec::with_capacity(alloc, TEXT_ROOM)?;
-        let line = Vec::with_capacity(alloc, LINE_LIMIT)?;
+        let line = Vec::with_capacity(alloc, limit)?;
         Ok(Buffers {
             ahead,
             stop: None,
             text,
             line,
+            limit,
         })
     }
 
@@ -64,7 +62,7 @@ impl Buffers {
     /// Reads the next line. After a stop it answers the same stop, and reads nothing.
     pub(crate) fn read_line<S: Source>(&mut self, source: &mut S) -> Result<LineEnd, ReadStop>
         requires ready { IsReady S.left self.old.ahead source.old }
-        ensures line { IsNone self.old.stop → ReadsLine (unread S.left self.old.ahead source.old) (unread S.left self.new.ahead source.new) self.new.line.items result }
+        ensures line { IsNone self.old.stop → ReadsLine self.old.limit (unread S.left self.old.ahead source.old) (unread S.left self.new.ahead source.new) self.new.line.items result }
         ensures repeats_stop { IfSome self.old.stop (λ stop. (result ≡ Err stop) × (self.new ≡ self.old) × (source.new ≡ source.old)) }
         ensures stopped { self.new.stop ≡ result_err result }
         ensures ready { IsReady S.left self.new.ahead source.new }
@@ -75,14 +73,20 @@ impl Buffers {
         ensures faults_only_rise { S.faults source.old ≤ S.faults source.new }
         ensures read { IsNone self.old.stop → IsErrOf result ReadStop.Read → Rose (S.faults source.old) (S.faults source.new) }
         ensures steady { IsNone self.old.stop → StaysSteady (S.steady source.old) (S.steady source.new) (IsErrOf result ReadStop.Read) }
-        ensures short { IfOk result (λ _. vec_len self.new.line ≤ 32768) }
+        ensures short { IfOk result (λ _. vec_len self.new.line ≤ self.old.limit) }
+        ensures reads { IsNone self.old.stop →
+            ReadsForLine S.read_gives self.old.limit self.new.line.items result self.old.ahead self.new.ahead source.old source.new }
+        ensures held { IsNone self.old.stop → ¬ HasNoFeed (pending self.old.ahead) → source.new ≡ source.old }
+        ensures bounded { IsNone self.old.stop → length (pending self.new.ahead) < read_size }
+        ensures cause { IsNone self.old.stop → HasReadCause (S.faults source.old) (S.faults source.new) result }
         ensures text { self.new.text ≡ self.old.text }
+        ensures limit { self.new.limit ≡ self.old.limit }
     {
         if let Some(stop) = self.stop {
             return Err(stop);
         }
         self.line.clear();
-        match self.ahead.append_line(source, &mut self.line, LINE_LIMIT) {
+        match self.ahead.append_line(source, &mut self.line, self.limit) {
             Ok(LineBreak::Feed) => Ok(LineEnd::Line),
             Ok(LineBreak::End) if self.line.is_empty() => Ok(LineEnd::End),
             Ok(LineBreak::End) => Ok(LineEnd::Line),
@@ -97,13 +101,17 @@ impl Buffers {
     pub(crate) fn read_text<S: Source>(&mut self, source: &mut S) -> Result<TextEnd, ReadStop>
         requires ready { IsReady S.left self.old.ahead source.old }
         requires first { IsUnused self.old }
+        ensures limit { self.new.limit ≡ self.old.limit }
         ensures text { ReadsText (unread S.left self.old.ahead source.old) (unread S.left self.new.ahead source.new) self.new.text.items result }
         ensures stopped { self.new.stop ≡ result_err result }
         ensures ready { IsReady S.left self.new.ahead source.new }
         ensures end { result ≡ Ok TextEnd.End → IsOver self.new.ahead }
         ensures drained { IsErrOf result ReadStop.Read → IsDrained self.new.ahead }
         ensures stays { StaysEnded self.old.ahead self.new.ahead source.old source.new }
-        ensures short { IfOk result (λ _. vec_len self.new.text ≤ 65536) }
+        ensures short { IfOk result (λ _. vec_len self.new.text ≤ longest_text) }
+        ensures reads { ReadsForText S.read_gives self.new.text.items result self.old.ahead self.new.ahead source.old source.new }
+        ensures bounded { length (pending self.new.ahead) < read_size }
+        ensures cause { HasReadCause (S.faults source.old) (S.faults source.new) result }
         ensures faults_only_rise { S.faults source.old ≤ S.faults source.new }
         ensures read { IsErrOf result ReadStop.Read → Rose (S.faults source.old) (S.faults source.new) }
         ensures steady { StaysSteady (S.steady source.old) (S.steady source.new) (IsErrOf result ReadStop.Read) }
@@ -124,11 +132,15 @@ impl Buffers {
         ensures end { result ≡ Ok TextEnd.End → IsOver self.new.ahead }
         ensures drained { IsErrOf result ReadStop.Read → IsDrained self.new.ahead }
         ensures stays { StaysEnded self.old.ahead self.new.ahead source.old source.new }
-        ensures short { IfOk result (λ _. vec_len self.new.text ≤ 65536) }
+        ensures short { IfOk result (λ _. vec_len self.new.text ≤ longest_text) }
+        ensures reads { ReadsForText S.read_gives self.new.text.items result self.old.ahead self.new.ahead source.old source.new }
+        ensures bounded { length (pending self.new.ahead) < read_size }
+        ensures cause { HasReadCause (S.faults source.old) (S.faults source.new) result }
         ensures faults_only_rise { S.faults source.old ≤ S.faults source.new }
         ensures read { IsErrOf result ReadStop.Read → Rose (S.faults source.old) (S.faults source.new) }
         ensures steady { StaysSteady (S.steady source.old) (S.steady source.new) (IsErrOf result ReadStop.Read) }
         ensures stop { self.new.stop ≡ self.old.stop }
+        ensures limit { self.new.limit ≡ self.old.limit }
     {
         'lines: loop {
             let start = self.text.len();
@@ -139,13 +151,13 @@ impl Buffers {
             }
             match line_break {
                 LineBreak::End => {
-                    if self.text.len() > TEXT_LIMIT {
+                    if self.text.len() > LONGEST_TEXT {
                         return Err(ReadStop::TooLong);
                     }
                     return Ok(TextEnd::End);
                 }
                 LineBreak::Feed => {
-                    if self.text.len() >= TEXT_LIMIT {
+                    if self.text.len() >= LONGEST_TEXT {
                         return Err(ReadStop::TooLong);
                     }
                     push_within(&mut self.text, b'\n');

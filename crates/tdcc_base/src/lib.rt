@@ -6,6 +6,7 @@ mod adapters;
 mod buffers;
 mod calls;
 mod gate;
+mod limits;
 mod lines;
 mod memory_sink;
 mod memory_source;
@@ -17,8 +18,9 @@ mod stops;
 mod tests;
 mod writing;
 
-pub use adapters::{StdSink, StdSource};
+pub use adapters::{Reader, StdSink, StdSource, Writer};
 pub use gate::{Acted, Gate, OpenGate};
+pub use limits::{LONGEST_LINE, LONGEST_TEXT, READ_SIZE, limits_law};
 pub use lines::Lines;
 pub use memory_sink::MemSink;
 pub use memory_source::MemSource;

@@ -55,14 +55,16 @@ impl MemSource {
 }
 
 impl Source for MemSource {
-    ghost use Rattle.tdcc_base.specs.Calls.{lists_none, IsListed, Counted};
-    ghost use Rattle.tdcc_base.specs.Chunks.{pieces_left, source_calls, GivesOf};
+    ghost use Rattle.tdcc_base.specs.Calls.{lists_none};
+    ghost use Rattle.tdcc_base.specs.Chunks.{pieces_left, source_calls, GivesNext};
 
     ghost left = { λ s. Some (concat (pieces_left s)) };
 
     ghost faults = { λ s. (source_calls s).faults };
 
     ghost steady = { λ s. lists_none (source_calls s) };
+
+    ghost read_gives = { GivesNext };
 
     /// Reads bytes of the first piece that has some left, as many as `into` has room for.
     fn read(&mut self, into: &mut [u8]) -> Result<usize, Failed>
@@ -71,10 +73,7 @@ impl Source for MemSource {
         ensures bytes { ReadConsumes (Some (concat (pieces_left self.old))) (Some (concat (pieces_left self.new))) result into.new }
         ensures cause { HasCause (source_calls self.old).faults (source_calls self.new).faults result }
         ensures steady { StaysSteady (lists_none (source_calls self.old)) (lists_none (source_calls self.new)) (IsErr result) }
-        ensures fails { IsErr result ↔ IsListed (source_calls self.old) }
-        ensures counts { Counted (source_calls self.old) (source_calls self.new) result }
-        ensures gives { IfOk result (λ n. GivesOf (pieces_left self.old) (pieces_left self.new) (length into.new) n) }
-        ensures kept { OnErr result (pieces_left self.new ≡ pieces_left self.old) }
+        ensures own { GivesNext self.old into.new result self.new }
     {
         if self.calls.begin() {
             self.calls.fail();

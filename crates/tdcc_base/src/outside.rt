@@ -1,16 +1,19 @@
-ghost use Rattle.std.specs.Prelude.{◌<◌, ◌≤◌, Bool, List, ℕ, Option, IfOk, IsErr, length};
+ghost use Rattle.std.specs.Prelude.{◌<◌, ◌≤◌, Bool, List, ℕ, Option, Result, IfOk, IsErr, length};
 ghost use Rattle.std.specs.Io.{ReadsAtMost};
 ghost use Rattle.std.specs.Io.KnownBytes.{ReadConsumes, WriteAppends};
 ghost use Rattle.tdcc_base.specs.Causes.{HasCause};
 ghost use Rattle.tdcc_base.specs.Promises.{StaysSteady, TakesWithin};
+ghost use Rattle.tdcc_base.specs.declared.outside.Failed.{Failed};
 
 use std::alloc::AllocError;
+use thiserror::Error;
 
 /// Out of memory.
 pub type Memory = AllocError;
 
 /// A device refused a call, and counted that.
-#[derive(Clone, Copy, Debug, PartialEq, Eq)]
+#[derive(Clone, Copy, Debug, PartialEq, Eq, Error)]
+#[error("the device failed")]
 pub struct Failed;
 
 /// Where bytes come from.
@@ -25,6 +28,10 @@ pub trait Source {
     /// it may still refuse none.
     ghost steady: { Self → Bool };
 
+    /// What one read may do: the source before it, the bytes that it was lent as they are after it, its answer, and the
+    /// source after it. A reader of a source says by it which reads were made.
+    ghost read_gives: { Self → List ℕ → Result ℕ Failed → Self → Type 0 };
+
     /// Reads some of the bytes that are left to the start of `into`, and answers how many.
     /// `Ok(0)` is the end of the bytes.
     ///
@@ -35,7 +42,8 @@ pub trait Source {
         ensures bound { ReadsAtMost result into.new }
         ensures bytes { ReadConsumes (left self.old) (left self.new) result into.new }
         ensures cause { HasCause (faults self.old) (faults self.new) result }
-        ensures steady { StaysSteady (steady self.old) (steady self.new) (IsErr result) };
+        ensures steady { StaysSteady (steady self.old) (steady self.new) (IsErr result) }
+        ensures own { read_gives self.old into.new result self.new };
 }
 
 /// Where bytes go.

@@ -1,9 +1,11 @@
-ghost use Rattle.std.specs.Prelude.{◌≡◌, ◌<◌, ◌≤◌, false, IfOk, OnErr, IsErr, IsErrOf, [], ◌∷◌, ◌++◌, vec_len, vec_capacity};
+ghost use Rattle.std.specs.Prelude.{◌≡◌, ◌<◌, ◌≤◌, true, false, is_err, IfOk, OnErr, IsErr, IsErrOf, IsSome, [], ◌∷◌, ◌++◌, length, vec_len, vec_capacity};
 ghost use Rattle.std.specs.Bool.{MatchBool};
 ghost use Rattle.std.specs.Io.KnownBytes.{Keeps, IsAtEnd};
-ghost use Rattle.tdcc_base.specs.Causes.{HasCause, Rose};
+ghost use Rattle.tdcc_base.specs.Causes.{HasCause, HasReadCause, Rose};
+ghost use Rattle.tdcc_base.specs.Limits.{read_size};
 ghost use Rattle.tdcc_base.specs.Promises.{StaysSteady};
 
+use crate::limits::READ_SIZE;
 use crate::outside::{Failed, Memory, Source};
 use crate::stops::ReadStop;
 use std::alloc::Global;
@@ -25,18 +27,20 @@ pub struct ReadAhead {
     from: usize,
     to: usize,
     ended: bool,
-    ghost sized: { vec_len chunk ≡ 4096 },
+    ghost sized: { vec_len chunk ≡ read_size },
     ghost ordered: { from ≤ to },
-    ghost within: { to ≤ 4096 },
+    ghost within: { to ≤ read_size },
 }
 
 impl ReadAhead {
-    ghost use Rattle.tdcc_base.specs.Unread.{unread, Gave, IsReady, IsOver, IsDrained, StaysEnded, AppendsLine};
+    ghost use Rattle.tdcc_base.specs.Unread.{pending, unread, Gave, IsReady, IsOver, IsDrained, StaysEnded, AppendsLine};
+    ghost use Rattle.tdcc_base.specs.Lines.{HasNoFeed};
+    ghost use Rattle.tdcc_base.specs.Reads.{ReadsOf, IsNothing, HandsOut, is_read_fault};
 
     pub(crate) fn new(alloc: Global) -> Result<ReadAhead, Memory>
         ensures { IfOk result IsDrained }
     {
-        let chunk = vec![in alloc; 0; 4096]?;
+        let chunk = vec![in alloc; 0; READ_SIZE]?;
         Ok(ReadAhead {
             chunk,
             from: 0,
@@ -55,6 +59,8 @@ impl ReadAhead {
         ensures ready { IsReady S.left self.new source.new }
         ensures stays { StaysEnded self.old self.new source.old source.new }
         ensures over { IsOver self.old → (result ≡ Ok false) × (self.new ≡ self.old) }
+        ensures reads { ReadsOf S.read_gives IsNothing (λ bytes left. left ≡ bytes) self.old self.new (is_err result) source.old source.new }
+        ensures going { result ≡ Ok true → self.new.ended ≡ self.old.ended }
         ensures cause { HasCause (S.faults source.old) (S.faults source.new) result }
         ensures steady { StaysSteady (S.steady source.old) (S.steady source.new) (IsErr result) }
     {
@@ -67,9 +73,12 @@ impl ReadAhead {
         self.from = 0;
         self.to = 0;
         let count = source.read(&mut self.chunk)?;
+        if count == 0 {
+            self.ended = true;
+            return Ok(false);
+        }
         self.to = count;
-        self.ended = count == 0;
-        Ok(count > 0)
+        Ok(true)
     }
 
     /// The next byte, or none where none is left.
@@ -82,6 +91,9 @@ impl ReadAhead {
         ensures ready { IsReady S.left self.new source.new }
         ensures stays { StaysEnded self.old self.new source.old source.new }
         ensures over { IsOver self.old → (result ≡ Ok None) × (self.new ≡ self.old) }
+        ensures reads { ReadsOf S.read_gives IsNothing (HandsOut result) self.old self.new (is_err result) source.old source.new }
+        ensures going { IfOk result (λ byte. IsSome byte → self.new.ended ≡ self.old.ended) }
+        ensures bounded { IfOk result (λ byte. IsSome byte → length (pending self.new) < read_size) }
         ensures cause { HasCause (S.faults source.old) (S.faults source.new) result }
         ensures steady { StaysSteady (S.steady source.old) (S.steady source.new) (IsErr result) }
     {
@@ -113,6 +125,12 @@ impl ReadAhead {
         ensures drained { IsErrOf result ReadStop.Read → IsDrained self.new }
         ensures stays { StaysEnded self.old self.new source.old source.new }
         ensures over { IsOver self.old → (result ≡ Ok LineBreak.End) × (self.new ≡ self.old) × (into.new.items ≡ into.old.items) }
+        ensures reads { ReadsOf S.read_gives HasNoFeed
+            (λ bytes left. AppendsLine (Some bytes) (Some left) into.old.items into.new.items limit result)
+            self.old self.new (is_read_fault result) source.old source.new }
+        ensures going { result ≡ Ok LineBreak.Feed → self.new.ended ≡ self.old.ended }
+        ensures bounded { length (pending self.new) < read_size }
+        ensures cause { HasReadCause (S.faults source.old) (S.faults source.new) result }
         ensures faults_only_rise { S.faults source.old ≤ S.faults source.new }
         ensures read { IsErrOf result ReadStop.Read → Rose (S.faults source.old) (S.faults source.new) }
         ensures steady { StaysSteady (S.steady source.old) (S.steady source.new) (IsErrOf result ReadStop.Read) }

@@ -11,7 +11,7 @@ pub enum Status {
     Program,
     /// A line of the trace was refused.
     Trace,
-    /// More agents run in an instant than there is fuel for.
+    /// More agents were run, over all instants together, than there is fuel for.
     Fuel,
     /// An instant has too many leaves.
     Net,

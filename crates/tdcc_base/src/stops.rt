@@ -1,3 +1,5 @@
+use thiserror::Error;
+
 /// How the reading of a text ended.
 #[derive(Clone, Copy, Debug, PartialEq, Eq)]
 pub enum TextEnd {
@@ -17,10 +19,12 @@ pub enum LineEnd {
 }
 
 /// Why a text or a line was not read.
-#[derive(Clone, Copy, Debug, PartialEq, Eq)]
+#[derive(Clone, Copy, Debug, PartialEq, Eq, Error)]
 pub enum ReadStop {
-    /// The text is longer than 65,536 bytes, or the line than 32,768.
+    /// The text is longer than 65,536 bytes, or the line than its limit.
+    #[error("a text or a line with too many bytes")]
     TooLong,
     /// The source failed.
+    #[error("reading failed")]
     Read,
 }

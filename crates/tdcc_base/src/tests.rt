@@ -147,6 +147,69 @@ fn a_fault_is_answered_again_where_the_source_could_go_on(rt: HostRuntime) -> Re
     Ok(())
 }
 
+/// A source of the bytes in one piece. Its calls with the numbers in `fails` fail.
+fn one_piece(alloc: Global, bytes: &[u8], fails: Vec<u64>) -> Result<MemSource, Memory> {
+    let pieces = vec![in alloc; bytes.to_vec(alloc)?]?;
+    Ok(MemSource::new(pieces, fails))
+}
+
+#[test]
+fn no_read_is_made_where_a_whole_line_is_held(rt: HostRuntime) -> Result<(), Fail> {
+    let alloc = rt.alloc();
+    let fails = vec![in alloc; 1]?;
+    let mut source = one_piece(alloc, b"a\n%%\nfirst\nsecond\nthi", fails)?;
+    let mut lines = Lines::new(alloc, &mut source)?;
+    assert_eq!(rt; lines.read_text(), Ok(TextEnd::Mark));
+    assert_eq!(rt; lines.read_line(), Ok(LineEnd::Line));
+    assert_eq!(rt; lines.read_line(), Ok(LineEnd::Line));
+    assert_eq!(rt; lines.line(), b"second".as_slice());
+    assert_eq!(rt; lines.read_line(), Err(ReadStop::Read));
+    Ok(())
+}
+
+#[test]
+fn no_read_is_made_after_the_end(rt: HostRuntime) -> Result<(), Fail> {
+    let alloc = rt.alloc();
+    let fails = vec![in alloc; 2]?;
+    let mut source = one_piece(alloc, b"%%\nlast", fails)?;
+    let mut lines = Lines::new(alloc, &mut source)?;
+    assert_eq!(rt; lines.read_text(), Ok(TextEnd::Mark));
+    assert_eq!(rt; lines.read_line(), Ok(LineEnd::Line));
+    assert_eq!(rt; lines.read_line(), Ok(LineEnd::End));
+    assert_eq!(rt; lines.read_line(), Ok(LineEnd::End));
+    Ok(())
+}
+
+/// The answer to the first line, of so many bytes `a` behind a mark, where the second read fails.
+fn first_of_long(alloc: Global, count: usize) -> Result<Result<LineEnd, ReadStop>, Memory> {
+    let mut input = many(alloc, 0, b"%%\n")?;
+    input.extend_from_slice(many(alloc, count, b"\nb\n")?.as_slice())?;
+    let mut source = one_piece(alloc, input.as_slice(), vec![in alloc; 1]?)?;
+    let mut lines = Lines::new(alloc, &mut source)?;
+    let _ = lines.read_text();
+    Ok(lines.read_line())
+}
+
+#[test]
+fn a_read_asks_for_4096_bytes(rt: HostRuntime) -> Result<(), Fail> {
+    let alloc = rt.alloc();
+    assert_eq!(rt; first_of_long(alloc, 4_092)?, Ok(LineEnd::Line));
+    assert_eq!(rt; first_of_long(alloc, 4_093)?, Err(ReadStop::Read));
+    Ok(())
+}
+
+#[test]
+fn the_maker_of_lines_gives_their_limit(rt: HostRuntime) -> Result<(), Fail> {
+    let alloc = rt.alloc();
+    let mut source = source_of(alloc, b"%%\nab\nabc\n", 4096)?;
+    let mut lines = Lines::with_limit(alloc, &mut source, 2)?;
+    assert_eq!(rt; lines.read_text(), Ok(TextEnd::Mark));
+    assert_eq!(rt; lines.read_line(), Ok(LineEnd::Line));
+    assert_eq!(rt; lines.line(), b"ab".as_slice());
+    assert_eq!(rt; lines.read_line(), Err(ReadStop::TooLong));
+    Ok(())
+}
+
 #[test]
 fn a_source_in_memory_gives_its_pieces_and_fails_where_it_is_told(
     rt: HostRuntime,
@@ -293,4 +356,16 @@ fn statuses_are_numbered_from_0_to_9(rt: HostRuntime) {
     assert_eq!(rt; Status::Read.number(), 7);
     assert_eq!(rt; Status::Write.number(), 8);
     assert_eq!(rt; Status::Memory.number(), 9);
+}
+
+#[test]
+fn errors_say_what_went_wrong(rt: HostRuntime) -> Result<(), Fail> {
+    let alloc = rt.alloc();
+    let failed = format!(in alloc; "{}", Failed)?;
+    assert_eq!(rt; failed.as_str(), "the device failed");
+    let long = format!(in alloc; "{}", ReadStop::TooLong)?;
+    assert_eq!(rt; long.as_str(), "a text or a line with too many bytes");
+    let read = format!(in alloc; "{}", ReadStop::Read)?;
+    assert_eq!(rt; read.as_str(), "reading failed");
+    Ok(())
 }

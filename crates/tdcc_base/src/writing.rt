@@ -9,7 +9,7 @@ use crate::outside::{Failed, Sink};
 /// Writes all bytes, in as many writes as the sink needs.
 ///
 /// # Errors
-/// `Failed` where a write failed: some of the bytes, and not all, may have been written before it.
+/// `Failed` where a write failed, and then no other write is made: some of the bytes, and not all, may have been written before it.
 pub fn write_all<K: Sink>(sink: &mut K, bytes: &[u8]) -> Result<(), Failed>
     ensures ok { OnOk result (Appends (K.written sink.old) (K.written sink.new) bytes.now) }
     ensures part { OnErr result (AppendsProperPrefix (K.written sink.old) (K.written sink.new) bytes.now) }

@@ -7,6 +7,7 @@ use Rattle.command_words.specs.declared.settings.Limits.{Limits}
 use Rattle.tdcc_base.specs.declared.status.Status.{Status}
 use Rattle.tdcc_base.specs.declared.stops.LineEnd.TheVariants as line_ends
 use Rattle.tdcc_base.specs.declared.stops.ReadStop.TheVariants as stops
+use Rattle.tdcc_base.specs.Limits.{longest_line}
 use Rattle.tdcc_base.specs.Lines.{first_line, after_line, onto_first, lines_of, ReadsLine}
 use Rattle.token_system.specs.Stores.{StoreMap}
 use Rattle.agent_core.specs.Programs.{CoreProgram}
@@ -78,10 +79,10 @@ at_seam [] y ys = refl
 at_seam (x ∷ xs) y ys = at_seam xs y ys
 
 -- a line that is too long has a feed or an end behind it
-long_line : (bytes : List ℕ) → 32768 < length (first_line bytes) → (rest : List ℕ) × (lines_of bytes ≡ first_line bytes ∷ lines_of rest)
+long_line : (bytes : List ℕ) → longest_line < length (first_line bytes) → (rest : List ℕ) × (lines_of bytes ≡ first_line bytes ∷ lines_of rest)
 long_line bytes over = (after_line bytes, lines-first bytes (not_empty bytes over))
   where
-    not_empty : (bs : List ℕ) → 32768 < length (first_line bs) → bs ≢ []
+    not_empty : (bs : List ℕ) → longest_line < length (first_line bs) → bs ≢ []
     not_empty [] h e = omega arith
     not_empty (b ∷ bs) h e = cc
 
@@ -144,35 +145,35 @@ module _ (s : Settings) where
     ends_here : (line : List ℕ) (end : RunEnd) → EndsAt c.book.program c.limits pr.full line end → EndsAt s.program s.limits pr.full line end
     ends_here line end h = subst (λ (q : CoreProgram). EndsAt q s.limits pr.full line end) pr.has.program (subst (λ (l : Limits). EndsAt c.book.program l pr.full line end) pr.has.limits h)
 
-  pub ended_whole : (start left new : Option (List ℕ)) (line o e : List ℕ) (c : RunState) (status : Status) → IsOnWay start left c → ReadsLine left new line (Ok line_ends.End) → IsEnd c ends.Completed status o e → IsAnswer start status o e
+  pub ended_whole : (start left new : Option (List ℕ)) (line o e : List ℕ) (c : RunState) (status : Status) → IsOnWay start left c → ReadsLine longest_line left new line (Ok line_ends.End) → IsEnd c ends.Completed status o e → IsAnswer start status o e
   ended_whole None left new line o e c status pr r is = tt
   ended_whole (Some trace) left new line o e c status pr r is =
-      let h = subst (λ (l : Option (List ℕ)). ReadsLine l new line (Ok line_ends.End)) pr.known r in
+      let h = subst (λ (l : Option (List ℕ)). ReadsLine longest_line l new line (Ok line_ends.End)) pr.known r in
       let all : lines_of trace ≡ pr.done = pr.lines ∙ ap (λ bs. pr.done ++ lines_of bs) h.0 ∙ append-nil pr.done in
       ended trace left c pr ends.Completed status o e (inl (refl, full_long trace left c pr ∙ long trace left c pr ∙ ap length (sym all))) is
 
-  pub ended_at : (start left new : Option (List ℕ)) (line o e : List ℕ) (c after : RunState) (end : RunEnd) (status : Status) → IsOnWay start left c → ReadsLine left new line (Ok line_ends.Line)
+  pub ended_at : (start left new : Option (List ℕ)) (line o e : List ℕ) (c after : RunState) (end : RunEnd) (status : Status) → IsOnWay start left c → ReadsLine longest_line left new line (Ok line_ends.Line)
       → StopsRun c after line end → IsEnd after end status o e → IsAnswer start status o e
   ended_at None left new line o e c after end status pr r at is = tt
   ended_at (Some trace) left new line o e c after end status pr r at is =
-      let h = subst (λ (l : Option (List ℕ)). ReadsLine l new line (Ok line_ends.Line)) pr.known r in
+      let h = subst (λ (l : Option (List ℕ)). ReadsLine longest_line l new line (Ok line_ends.Line)) pr.known r in
       ended trace left c pr end status o e (inr (line, line_there trace left c pr line h.0 h.1.lines, ends_here trace left c pr line end (at.at h.2 pr.full pr.follows)))
       (subst (λ (x : RunState). IsEnd x end status o e) at.same is)
 
-  pub ended_long : (start left new : Option (List ℕ)) (line o e : List ℕ) (c : RunState) (status : Status) → IsOnWay start left c → ReadsLine left new line (Err stops.TooLong)
+  pub ended_long : (start left new : Option (List ℕ)) (line o e : List ℕ) (c : RunState) (status : Status) → IsOnWay start left c → ReadsLine longest_line left new line (Err stops.TooLong)
       → IsEnd c (ends.BadLine faults.LineTooLong) status o e → IsAnswer start status o e
   ended_long None left new line o e c status pr r is = tt
   ended_long (Some trace) left new line o e c status pr r is =
-      let h = subst (λ (l : Option (List ℕ)). ReadsLine l new line (Err stops.TooLong)) pr.known r in
+      let h = subst (λ (l : Option (List ℕ)). ReadsLine longest_line l new line (Err stops.TooLong)) pr.known r in
       let first = long_line pr.rest h.0 in
       let bad : IsBadLine s.program (length pr.full) (first_line pr.rest) faults.LineTooLong = record { refused = h.0; says = λ same. cc; due = inr refl } in
       ended trace left c pr (ends.BadLine faults.LineTooLong) status o e (inr (first_line pr.rest, line_there trace left c pr (first_line pr.rest) first.0 first.1, bad)) is
 
   -- a line goes on
-  pub goes_on : (start left new : Option (List ℕ)) (line : List ℕ) (c after : RunState) → IsOnWay start left c → ReadsLine left new line (Ok line_ends.Line) → Advances c after line → IsOnWay start new after
+  pub goes_on : (start left new : Option (List ℕ)) (line : List ℕ) (c after : RunState) → IsOnWay start left c → ReadsLine longest_line left new line (Ok line_ends.Line) → Advances c after line → IsOnWay start new after
   goes_on None left new line c after pr r g = tt
   goes_on (Some trace) left new line c after pr r g =
-      let h = subst (λ (l : Option (List ℕ)). ReadsLine l new line (Ok line_ends.Line)) pr.known r in
+      let h = subst (λ (l : Option (List ℕ)). ReadsLine longest_line l new line (Ok line_ends.Line)) pr.known r in
       let x = g.closes in
       record {
         done = pr.done ++ line ∷ [];

@@ -8,6 +8,7 @@ use Rattle.tdcc_base.specs.declared.stops.LineEnd.TheVariants as line_ends
 use Rattle.tdcc_base.specs.declared.stops.ReadStop.TheVariants as stops
 use Rattle.tdcc_base.specs.declared.stops.TextEnd.{TextEnd}
 use Rattle.tdcc_base.specs.Texts.{ReadsText}
+use Rattle.tdcc_base.specs.Limits.{longest_line}
 use Rattle.tdcc_base.specs.Lines.{lines_of, ReadsLine}
 use Rattle.agent_core.specs.Programs.{CoreProgram}
 use Rattle.command_words.specs.declared.settings.Limits.{Limits}
@@ -31,10 +32,10 @@ none_waiting (Some bs) [] e = e
 none_waiting (Some bs) (x ∷ pending) e = absurd (cc)
 
 pub ended_source : (s : Settings) (c : RunState) (start waiting left : Option (List ℕ)) (pending line : List ℕ)
-    → IsOnWay s start waiting c → ReadsLine waiting (prepend_known pending left) line (Ok line_ends.End) → OnSome start (left ≡ Some [])
+    → IsOnWay s start waiting c → ReadsLine longest_line waiting (prepend_known pending left) line (Ok line_ends.End) → OnSome start (left ≡ Some [])
 ended_source s c None waiting left pending line pr r = tt
 ended_source s c (Some trace) waiting left pending line pr r =
-    let h = subst (λ (l : Option (List ℕ)). ReadsLine l (prepend_known pending left) line (Ok line_ends.End)) pr.known r in
+    let h = subst (λ (l : Option (List ℕ)). ReadsLine longest_line l (prepend_known pending left) line (Ok line_ends.End)) pr.known r in
     none_waiting left pending h.1
 
 module _ (task : Task) where

@@ -1,8 +1,9 @@
 //! What a command answers to a program text, and the trace behind it.
 ghost use Rattle.std.specs.Prelude.{◌≡◌, ◌≤◌, ℕ, List, [], IfOk, IfSome, OnSome, IsErrOf, IsTrue, Some};
 ghost use Rattle.tdcc_base.specs.Causes.{Rose};
+ghost use Rattle.tdcc_base.specs.Limits.{longest_line};
 ghost use Rattle.tdcc_base.specs.Promises.{StaysSteady};
-ghost use Rattle.tdcc_base.specs.Waiting.{waiting, source_of, IsFirst, reference_of};
+ghost use Rattle.tdcc_base.specs.Waiting.{waiting, source_of, limit_of, IsFirst, reference_of};
 ghost use Rattle.tdcc_tool.specs.Answers.{AnswersBy, AnswersTo};
 ghost use Rattle.tdcc_tool.specs.Statuses.{IsCommandEnd};
 ghost use Rattle.tdcc_tool.specs.Tasks.{HasNetLimit, IsGenerated, RunsProgram, ReadsTrace, task_of as the_task};
@@ -26,6 +27,7 @@ fn answer_lines<S: Source>(
 ) -> Result<Answer, Stop>
     requires net { HasNetLimit task }
     requires first { IsFirst S.left lines.old }
+    requires limit { limit_of lines.old ≡ longest_line }
     ensures same_reference { reference_of lines.new ≡ reference_of lines.old }
     ensures answer { IfOk result (λ a. IfSome (waiting S.left lines.old) (λ bytes. AnswersTo task bytes a.status a.out.items a.err.items)) }
     ensures ended { IfOk result (λ a. RunsProgram task → a.status ≡ Status.Ok → OnSome (waiting S.left lines.old) (S.left (source_of lines.new) ≡ Some [])) }

@@ -2,8 +2,9 @@
 ghost use Rattle.std.specs.Prelude.{◌≡◌, ◌≤◌, [], IfOk, IfSome, MatchOption, OnSome, IsNone, IsErrOf, Some};
 ghost use Rattle.tdcc_base.specs.Causes.{Rose};
 ghost use Rattle.tdcc_base.specs.Promises.{StaysSteady};
+ghost use Rattle.tdcc_base.specs.Limits.{longest_line};
 ghost use Rattle.tdcc_base.specs.Lines.{lines_of};
-ghost use Rattle.tdcc_base.specs.Waiting.{waiting, source_of, stop_of, LinesReady, reference_of};
+ghost use Rattle.tdcc_base.specs.Waiting.{waiting, source_of, stop_of, limit_of, LinesReady, reference_of};
 ghost use Rattle.agent_core.specs.Strata.{Stratifies};
 ghost use Rattle.tdcc_tool.specs.Answers.{ProgramAnswer, RunAnswer};
 ghost use Rattle.tdcc_tool.specs.Statuses.{IsCommandEnd};
@@ -47,6 +48,7 @@ fn run_trace<S: Source>(
     requires follows { IsStateOf start [] }
     requires ins { start.book.ins ≡ [] }
     requires ready { LinesReady S.left lines.old }
+    requires limit { limit_of lines.old ≡ longest_line }
     requires going_on { IsNone (stop_of lines.old) }
     ensures same_reference { reference_of lines.new ≡ reference_of lines.old }
     ensures answer { IfOk result (λ a. IfSome (waiting S.left lines.old) (λ trace.
@@ -87,6 +89,7 @@ pub fn run_program<S: Source>(
 ) -> Result<Answer, Stop>
     requires net { limits.net ≤ 65536 }
     requires ready { LinesReady S.left lines.old }
+    requires limit { limit_of lines.old ≡ longest_line }
     requires going_on { IsNone (stop_of lines.old) }
     ensures same_reference { reference_of lines.new ≡ reference_of lines.old }
     ensures answer { IfOk result (λ a. IfSome (waiting S.left lines.old) (λ trace.

@@ -1,6 +1,7 @@
 use Rattle.std.proofs.Common.{◌≡◌, ◌≤◌, ◌-◌, length}
 use Rattle.std.specs.Prelude.{IsNone, IsTrue}
-use Rattle.tdcc_base.specs.Waiting.{waiting, source_of, stop_of, LinesReady, reference_of}
+use Rattle.tdcc_base.specs.Limits.{longest_line}
+use Rattle.tdcc_base.specs.Waiting.{waiting, source_of, stop_of, limit_of, LinesReady, reference_of}
 use Rattle.tdcc_tool.specs.declared.run_state.RunState.{RunState}
 use Rattle.tdcc_tool.proofs.RunSteps.{Settings, IsOnWay}
 use Rattle.tdcc_tool.proofs.trace.run_trace.Given as goal
@@ -12,6 +13,7 @@ abbrev pub invariant-lines : goal.invariant-lines
 invariant-lines g l = record {
   same : reference_of l.lines ≡ reference_of l.fn.lines;
   ready : LinesReady g.S.Source.left l.lines;
+  limit : limit_of l.lines ≡ longest_line;
   going_on : IsNone (stop_of l.lines);
   later : g.S.Source.faults (source_of l.fn.lines) ≤ g.S.Source.faults (source_of l.lines);
   steady : IsTrue (g.S.Source.steady (source_of l.fn.lines)) → IsTrue (g.S.Source.steady (source_of l.lines));

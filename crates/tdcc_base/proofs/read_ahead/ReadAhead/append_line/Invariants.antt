@@ -2,6 +2,7 @@ use Rattle.std.proofs.Common.{◌≡◌, ◌≤◌, ◌-◌}
 use Rattle.std.specs.Prelude.{vec_len, vec_capacity, IsTrue}
 use Rattle.tdcc_base.specs.Unread.{unread, IsReady, IsOver, StaysEnded}
 use Rattle.tdcc_base.proofs.LineSteps.{TakesFront}
+use Rattle.tdcc_base.proofs.ReadSteps.{LineSoFar}
 use Rattle.tdcc_base.proofs.read_ahead.ReadAhead.append_line.Given as goal
 
 abbrev pub invariant-bytes : goal.invariant-bytes
@@ -12,7 +13,8 @@ invariant-bytes g l = record {
   room : l.limit ≤ vec_capacity l.into;
   stays : StaysEnded l.fn.self l.self l.fn.source l.source;
   over : IsOver l.fn.self → (l.self ≡ l.fn.self) × (l.into.items ≡ l.fn.into.items);
-  later : g.S.Source.faults l.fn.source ≤ g.S.Source.faults l.source;
+  same : g.S.Source.faults l.source ≡ g.S.Source.faults l.fn.source;
+  reads : LineSoFar g.S.Source.read_gives l.fn.self l.self l.fn.into.items l.into.items l.fn.source l.source;
   steady : IsTrue (g.S.Source.steady l.fn.source) → IsTrue (g.S.Source.steady l.source);
 }
 
