@@ -69,38 +69,38 @@ module _ (p : CoreProgram) (is : IsWellFormed p) where
   some_program_answer mode limits lines = elim (table_or_case p is) [
     | inl (table, fits) ↦ let (s, o, e, answer) = some_run p is table fits mode limits lines in (s, o, e, inr (table, fits, answer))
     | inr (edge, first, none) ↦ (
-        _,
-        _,
-        _,
-        inl (record {
-          guard = edge.guard.cell;
-          told = edge.told;
-          node = edge.guard.node;
-          case = record { none = none; edge = edge; first = first; guard_is = refl; told_is = refl; node_is = refl };
-          is = refl;
-          nothing = refl;
-          line = refl;
-        }),
-      )
+      _,
+      _,
+      _,
+      inl (record {
+        guard = edge.guard.cell;
+        told = edge.told;
+        node = edge.guard.node;
+        case = record { none = none; edge = edge; first = first; guard_is = refl; told_is = refl; node_is = refl };
+        is = refl;
+        nothing = refl;
+        line = refl;
+      }),
+    )
   ]
 
   some_check_answer : (s : Status) × (o : List ℕ) × (e : List ℕ) × (CaseAnswer p s o e ⊎ CheckAnswer p s o e)
   some_check_answer = elim (table_or_case p is) [
     | inl (table, fits) ↦ let (least, stratified, low) = some_least p is table fits in (_, _, _, inr (record { table = least; stratified = stratified; least = low; is = refl; written = refl; nothing = refl }))
     | inr (edge, first, none) ↦ (
-        _,
-        _,
-        _,
-        inl (record {
-          guard = edge.guard.cell;
-          told = edge.told;
-          node = edge.guard.node;
-          case = record { none = none; edge = edge; first = first; guard_is = refl; told_is = refl; node_is = refl };
-          is = refl;
-          nothing = refl;
-          line = refl;
-        }),
-      )
+      _,
+      _,
+      _,
+      inl (record {
+        guard = edge.guard.cell;
+        told = edge.told;
+        node = edge.guard.node;
+        case = record { none = none; edge = edge; first = first; guard_is = refl; told_is = refl; node_is = refl };
+        is = refl;
+        nothing = refl;
+        line = refl;
+      }),
+    )
   ]
 
   some_answer_of : (task : Task) (bytes : List ℕ) → (s : Status) × (o : List ℕ) × (e : List ℕ) × AnswersOf task p bytes s o e

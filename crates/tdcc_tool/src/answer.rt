@@ -8,9 +8,9 @@ ghost use Rattle.tdcc_tool.specs.RunEnds.{end_line as end_line_of, status_of};
 ghost use Rattle.tdcc_tool.specs.Steps.{IsStateOf, IsNotOutOfMemory};
 ghost use Rattle.tdcc_tool.specs.RunTexts.{written};
 
-use crate::run_state::RunState;
-use crate::run_end::RunEnd;
 use crate::messages::{end_line, program_line, strata_line};
+use crate::run_end::RunEnd;
+use crate::run_state::RunState;
 use agent_core::Program;
 use core_text::print_core;
 use std::alloc::{AllocError, AllocFailed, Global};

@@ -110,7 +110,11 @@ pub fn end_line(alloc: Global, instant: u32, end: RunEnd) -> Result<Vec<u8>, Mem
 {
     match end {
         RunEnd::Completed => Ok(Vec::new(alloc)),
-        RunEnd::BadLine { fault } => instant_line(alloc, instant, fault_text(alloc, fault)?.as_str()),
+        RunEnd::BadLine { fault } => instant_line(
+            alloc,
+            instant,
+            fault_text(alloc, fault)?.as_str(),
+        ),
         RunEnd::TooManyLines => instant_line(alloc, instant, "over 65536 instants"),
         RunEnd::NetFull { leaves } => {
             let line = format!(in alloc; "tdcc: net: instant {instant}: {leaves} leaves\n")?;

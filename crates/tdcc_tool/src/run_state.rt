@@ -1,10 +1,10 @@
 //! The state of a run: how it begins, goes on by an instant, and is written.
 ghost use Rattle.std.specs.Prelude.{◌<◌, ◌≤◌};
 
-use crate::run_end::RunEnd;
 use crate::instant::output_of;
-use crate::summary::summary;
 use crate::output::{OutputMode, write_line};
+use crate::run_end::RunEnd;
+use crate::summary::summary;
 use agent_core::{Levels, Program};
 use command_words::Limits;
 use instant_net::NetFault;

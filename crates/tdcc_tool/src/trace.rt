@@ -11,9 +11,9 @@ ghost use Rattle.tdcc_tool.specs.Statuses.{IsCommandEnd};
 ghost use Rattle.tdcc_tool.specs.Steps.{StopsRun, IsStateOf, Advances};
 
 use crate::answer::{Answer, Stop, finish, refused_case};
-use crate::run_state::RunState;
-use crate::run_end::RunEnd;
 use crate::output::OutputMode;
+use crate::run_end::RunEnd;
+use crate::run_state::RunState;
 use agent_core::{Levels, Program};
 use command_words::Limits;
 use std::alloc::{AllocError, Global};
