@@ -20,7 +20,7 @@ use Rattle.tdcc_tool.specs.declared.run_end.RunEnd.TheVariants as ends
 use Rattle.tdcc_tool.specs.declared.output.OutputMode.{OutputMode}
 use Rattle.tdcc_tool.specs.Answers.{GiveInputs, KeepsLimits, RunAnswer}
 use Rattle.tdcc_tool.specs.RunEnds.{IsBadLine, EndsAt, EndsBy, status_of, end_line}
-use Rattle.tdcc_tool.specs.Steps.{StopsRun, IsStateOf, Advances}
+use Rattle.tdcc_tool.specs.Steps.{StopsRun, IsStateOf, AdvancesRun}
 use Rattle.tdcc_tool.specs.RunTexts.{written}
 
 -- the program, what is written of it, and the limits: they stay through a run
@@ -170,7 +170,7 @@ module _ (s : Settings) where
       ended trace left c pr (ends.BadLine faults.LineTooLong) status o e (inr (first_line pr.rest, line_there trace left c pr (first_line pr.rest) first.0 first.1, bad)) is
 
   -- a line goes on
-  pub goes_on : (start left new : Option (List ℕ)) (line : List ℕ) (c after : RunState) → IsOnWay start left c → ReadsLine longest_line left new line (Ok line_ends.Line) → Advances c after line → IsOnWay start new after
+  pub goes_on : (start left new : Option (List ℕ)) (line : List ℕ) (c after : RunState) → IsOnWay start left c → ReadsLine longest_line left new line (Ok line_ends.Line) → AdvancesRun c after line → IsOnWay start new after
   goes_on None left new line c after pr r g = tt
   goes_on (Some trace) left new line c after pr r g =
       let h = subst (λ (l : Option (List ℕ)). ReadsLine longest_line l new line (Ok line_ends.Line)) pr.known r in

@@ -22,7 +22,7 @@ use Rattle.tdcc_tool.specs.declared.run_state.RunState.{RunState}
 use Rattle.tdcc_tool.specs.declared.run_end.RunEnd.TheVariants as ends
 use Rattle.tdcc_tool.specs.declared.output.OutputMode.{OutputMode}
 use Rattle.tdcc_tool.specs.RunEnds.{leaf_count_after, IsDue}
-use Rattle.tdcc_tool.specs.Steps.{count_now, StopsRun, IsStateOf, Advances, IsNetAfter}
+use Rattle.tdcc_tool.specs.Steps.{count_now, StopsRun, IsStateOf, AdvancesRun, IsNetAfter}
 use Rattle.tdcc_tool.specs.RunTexts.{ran_after, spent, line_of, instant_lines}
 use Rattle.tdcc_tool.proofs.RunTexts.{spent-push, instant_lines-push}
 
@@ -106,7 +106,7 @@ module _ (c : RunState) (input : StoreMap) (room : length c.book.ins < 65536) wh
         → IsClosed c.book after.book input v → ((full : List StoreMap) → Keeps c.book full → Keeps after.book (full ++ v ∷ []))
         → IsNetOf c.book.program c.book.levels (listed c.book.roots) (length c.book.ins) net
         → ((past : List StoreMap) → Keeps after.book (past ++ v ∷ []) → IsNetAfter after.book past net → after.lines.items ≡ c.lines.items ++ line_of after.mode after.book.program past v)
-        → (line : List ℕ) → GivesInput c.book.program line input → Advances c after line
+        → (line : List ℕ) → GivesInput c.book.program line input → AdvancesRun c after line
     goes-on after net mode limits is-total cheap closed keeps of lines line given = record {
       few = room;
       input = input;

@@ -40,7 +40,7 @@ pub record ClosesInstant (before after : RunState) (input : StoreMap) : Type 0 w
   pub follows : (full : List StoreMap) → IsStateOf before full → IsStateOf after (full ++ output ∷ [])
 
 -- the line gives the input of an instant, which is closed
-pub record Advances (before after : RunState) (line : List ℕ) : Type 0 where
+pub record AdvancesRun (before after : RunState) (line : List ℕ) : Type 0 where
   pub few : length before.book.ins < 65536
   pub input : StoreMap
   pub given : GivesInput before.book.program line input

@@ -107,7 +107,8 @@ pub fn core_answer(alloc: Global, program: &Program) -> Result<Answer, Memory>
 pub fn finish(alloc: Global, state: RunState, end: RunEnd) -> Result<Answer, Memory>
     requires { IsNotOutOfMemory end }
     ensures status { IfOk result (λ a. a.status ≡ status_of end) }
-    ensures out { IfOk result (λ a. (full : List StoreMap) → IsStateOf state full → a.out.items ≡ written state.mode state.book.program full) }
+    ensures out { IfOk result (λ a. (full : List StoreMap) → IsStateOf state full
+        → a.out.items ≡ written state.mode state.book.program full) }
     ensures err { IfOk result (λ a. a.err.items ≡ end_line_of (length state.book.ins) end) }
 {
     let err = end_line(alloc, state.book.instants(), end)?;

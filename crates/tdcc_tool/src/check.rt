@@ -46,7 +46,8 @@ fn check_text(alloc: Global, program: &Program, levels: &Levels) -> Result<Vec<u
 
 /// The answer that says how large the program is, or by which case it is refused.
 pub fn check_answer(alloc: Global, program: &Program) -> Result<Answer, Memory>
-    ensures { IfOk result (λ a. CaseAnswer program.now a.status a.out.items a.err.items ⊎ CheckAnswer program.now a.status a.out.items a.err.items) }
+    ensures { IfOk result (λ a. CaseAnswer program.now a.status a.out.items a.err.items
+        ⊎ CheckAnswer program.now a.status a.out.items a.err.items) }
 {
     match strata(alloc, program) {
         Ok(levels) => Ok(Answer {

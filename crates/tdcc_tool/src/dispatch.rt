@@ -29,8 +29,10 @@ fn answer_lines<S: Source>(
     requires first { IsFirst S.left lines.old }
     requires limit { limit_of lines.old ≡ longest_line }
     ensures same_reference { reference_of lines.new ≡ reference_of lines.old }
-    ensures answer { IfOk result (λ a. IfSome (waiting S.left lines.old) (λ bytes. AnswersTo task bytes a.status a.out.items a.err.items)) }
-    ensures ended { IfOk result (λ a. RunsProgram task → a.status ≡ Status.Ok → OnSome (waiting S.left lines.old) (S.left (source_of lines.new) ≡ Some [])) }
+    ensures answer { IfOk result (λ a. IfSome (waiting S.left lines.old)
+        (λ bytes. AnswersTo task bytes a.status a.out.items a.err.items)) }
+    ensures ended { IfOk result (λ a. RunsProgram task → a.status ≡ Status.Ok
+        → OnSome (waiting S.left lines.old) (S.left (source_of lines.new) ≡ Some [])) }
     ensures command_end { IfOk result (λ a. IsCommandEnd a.status) }
     ensures faults_only_rise { S.faults (source_of lines.old) ≤ S.faults (source_of lines.new) }
     ensures read { IsErrOf result Stop.Read → Rose (S.faults (source_of lines.old)) (S.faults (source_of lines.new)) }
@@ -56,8 +58,10 @@ fn answer_lines<S: Source>(
 /// Reads what the task needs of the source, and does it.
 pub fn answer<S: Source>(alloc: Global, task: Task, source: &mut S) -> Result<Answer, Stop>
     requires net { HasNetLimit task }
-    ensures answer { IfOk result (λ a. IfSome (S.left source.old) (λ bytes. AnswersTo task bytes a.status a.out.items a.err.items)) }
-    ensures ended { IfOk result (λ a. RunsProgram task → a.status ≡ Status.Ok → OnSome (S.left source.old) (S.left source.new ≡ Some [])) }
+    ensures answer { IfOk result (λ a. IfSome (S.left source.old)
+        (λ bytes. AnswersTo task bytes a.status a.out.items a.err.items)) }
+    ensures ended { IfOk result (λ a. RunsProgram task → a.status ≡ Status.Ok
+        → OnSome (S.left source.old) (S.left source.new ≡ Some [])) }
     ensures command_end { IfOk result (λ a. IsCommandEnd a.status) }
     ensures read { IsErrOf result Stop.Read → Rose (S.faults source.old) (S.faults source.new) }
     ensures steady { IsTrue (S.steady source.old) → IsErrOf result Stop.Read → ⊥ }
@@ -75,10 +79,13 @@ pub fn answer_command<S: Source>(
     source: &mut S,
 ) -> Result<Answer, Stop>
     requires net { HasNetLimit (the_task command) }
-    ensures answer { IfOk result (λ a. IfSome (S.left source.old) (λ bytes. AnswersBy command bytes a.status a.out.items a.err.items)) }
-    ensures ended { IfOk result (λ a. ReadsTrace command → a.status ≡ Status.Ok → OnSome (S.left source.old) (S.left source.new ≡ Some [])) }
+    ensures answer { IfOk result (λ a. IfSome (S.left source.old)
+        (λ bytes. AnswersBy command bytes a.status a.out.items a.err.items)) }
+    ensures ended { IfOk result (λ a. ReadsTrace command → a.status ≡ Status.Ok
+        → OnSome (S.left source.old) (S.left source.new ≡ Some [])) }
     ensures generated { IsGenerated command → source.new ≡ source.old }
-    ensures generates { (bytes : List ℕ) → IsGenerated command → IfOk result (λ a. AnswersBy command bytes a.status a.out.items a.err.items) }
+    ensures generates { (bytes : List ℕ) → IsGenerated command → IfOk result
+        (λ a. AnswersBy command bytes a.status a.out.items a.err.items) }
     ensures unread { IsGenerated command → IsErrOf result Stop.Read → ⊥ }
     ensures command_end { IfOk result (λ a. IsCommandEnd a.status) }
     ensures read { IsErrOf result Stop.Read → Rose (S.faults source.old) (S.faults source.new) }

@@ -57,7 +57,8 @@ pub fn write_line(
     into: &mut Vec<u8>,
 ) -> Result<(), Memory>
     requires { AreWords net.now.cells words.now }
-    ensures { OnOk result ((past : List StoreMap) → Keeps book.now (past ++ store_in net.now.cells words.now ∷ []) → IsNetAfter book.now past net.now
+    ensures { OnOk result ((past : List StoreMap) → Keeps book.now (past ++ store_in net.now.cells words.now ∷ [])
+        → IsNetAfter book.now past net.now
         → into.new.items ≡ into.old.items ++ line_of mode book.now.program past (store_in net.now.cells words.now)) }
 {
     match mode {

@@ -30,7 +30,7 @@ impl RunState {
     ghost use Rattle.agent_core.specs.Stores.{IsInput};
     ghost use Rattle.agent_core.specs.Strata.{Stratifies};
     ghost use Rattle.trace_text.specs.Inputs.{GivesInput};
-    ghost use Rattle.tdcc_tool.specs.Steps.{StopsRun, IsStateOf, Advances};
+    ghost use Rattle.tdcc_tool.specs.Steps.{StopsRun, IsStateOf, AdvancesRun};
     ghost use Rattle.tdcc_tool.specs.RunTexts as texts;
 
     /// The state of a run that begins. The levels stratify the program, and an instant may have 65,536 leaves at most.
@@ -63,7 +63,7 @@ impl RunState {
         requires room { length self.old.book.ins < 65536 }
         requires input { IsInput self.old.book.program input }
         ensures { IfOk result (λ end. (line : List ℕ) → GivesInput self.old.book.program line input
-            → MatchOption end (Advances self.old self.new line) (StopsRun self.old self.new line)) }
+            → MatchOption end (AdvancesRun self.old self.new line) (StopsRun self.old self.new line)) }
     {
         let (net, words) = match output_of(alloc, &self.book, &input, self.limits.net) {
             Ok(found) => found,
@@ -82,7 +82,8 @@ impl RunState {
 
     /// All that is written of the run.
     pub fn written(self, alloc: Global) -> Result<Vec<u8>, Memory>
-        ensures { IfOk result (λ out. (full : List StoreMap) → IsStateOf self full → out.items ≡ texts.written self.mode self.book.program full) }
+        ensures { IfOk result (λ out. (full : List StoreMap) → IsStateOf self full
+            → out.items ≡ texts.written self.mode self.book.program full) }
     {
         match self.mode {
             OutputMode::Stores => Ok(self.lines),

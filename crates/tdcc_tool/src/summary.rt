@@ -40,7 +40,8 @@ fn told_in_all(declared: u32, stores: &[Store]) -> u64
 
 /// The summary of the run that the book keeps, in which so many agents ran.
 pub fn summary(alloc: Global, book: &Book, spent: u64) -> Result<Vec<u8>, Memory>
-    ensures { IfOk result (λ line. (full : List StoreMap) → Keeps book.now full → spent ≡ texts.spent book.now.program full
+    ensures { IfOk result (λ line. (full : List StoreMap) → Keeps book.now full
+        → spent ≡ texts.spent book.now.program full
         → line.items ≡ summary_line book.now.program full ++ 10 ∷ []) }
 {
     let outs = book.outs();

@@ -40,8 +40,8 @@ pub fn tdcc<R: Threads + Sync, S: Source, K: Sink, E: Sink, G: Gate>(
     gate: &G,
 ) -> Status
     // The defined answer, where nothing cut the call short.
-    ensures answer { IsComplete result → (bytes : List ℕ) → MayHave words.now (S.left source.old) bytes → (o e : List ℕ) ×
-        Answers words.now bytes result o e
+    ensures answer { IsComplete result → (bytes : List ℕ) → MayHave words.now (S.left source.old) bytes → (o e : List ℕ)
+        × Answers words.now bytes result o e
         × Appends (K.written out.old) (K.written out.new) o
         × WritesUntilFault (E.written err.old) (E.written err.new) (E.faults err.old) (E.faults err.new) e }
 
@@ -49,8 +49,10 @@ pub fn tdcc<R: Threads + Sync, S: Source, K: Sink, E: Sink, G: Gate>(
     ensures cut_out { (bytes given : List ℕ) → MayHave words.now (S.left source.old) bytes
         → Consumes (S.left source.old) (S.left source.new) given
         → LeavesAfterFault result words.now bytes given (K.written out.old) (K.written out.new) }
-    ensures no_trace { (command : Command) → WordsCall command words.now → ¬ ReadsTrace command → result ≡ Status.Read → out.new ≡ out.old }
-    ensures fixed_line { IfSome (fixed_line result) (λ line. WritesUntilFault (E.written err.old) (E.written err.new) (E.faults err.old) (E.faults err.new) line) }
+    ensures no_trace { (command : Command) → WordsCall command words.now → ¬ ReadsTrace command
+        → result ≡ Status.Read → out.new ≡ out.old }
+    ensures fixed_line { IfSome (fixed_line result) (λ line.
+        WritesUntilFault (E.written err.old) (E.written err.new) (E.faults err.old) (E.faults err.new) line) }
     ensures read { result ≡ Status.Read → Rose (S.faults source.old) (S.faults source.new) }
     ensures write { result ≡ Status.Write → Rose (K.faults out.old) (K.faults out.new) }
 
@@ -72,8 +74,10 @@ pub fn tdcc<R: Threads + Sync, S: Source, K: Sink, E: Sink, G: Gate>(
     ensures usage_out { result ≡ Status.Usage → out.new ≡ out.old }
 
     // What was read, and which statuses there are.
-    ensures ended { (command : Command) → WordsCall command words.now → ReadsTrace command → result ≡ Status.Ok → OnSome (S.left source.old) (S.left source.new ≡ Some []) }
-    ensures generated { (command : Command) → WordsCall command words.now → IsGenerated command → source.new ≡ source.old }
+    ensures ended { (command : Command) → WordsCall command words.now → ReadsTrace command → result ≡ Status.Ok
+        → OnSome (S.left source.old) (S.left source.new ≡ Some []) }
+    ensures generated { (command : Command) → WordsCall command words.now → IsGenerated command
+        → source.new ≡ source.old }
     ensures statuses { IsToolStatus result }
 {
     let _ = rt;

@@ -8,7 +8,7 @@ ghost use Rattle.tdcc_base.specs.Waiting.{waiting, source_of, stop_of, limit_of,
 ghost use Rattle.agent_core.specs.Strata.{Stratifies};
 ghost use Rattle.tdcc_tool.specs.Answers.{ProgramAnswer, RunAnswer};
 ghost use Rattle.tdcc_tool.specs.Statuses.{IsCommandEnd};
-ghost use Rattle.tdcc_tool.specs.Steps.{StopsRun, IsStateOf, Advances};
+ghost use Rattle.tdcc_tool.specs.Steps.{StopsRun, IsStateOf, AdvancesRun};
 
 use crate::answer::{Answer, Stop, finish, refused_case};
 use crate::output::OutputMode;
@@ -27,7 +27,7 @@ const INSTANTS: u32 = 65_536;
 
 /// Runs the instant of one line, or says how the run ends at it.
 fn run_line(alloc: Global, state: &mut RunState, line: &[u8]) -> Result<Option<RunEnd>, Memory>
-    ensures { IfOk result (λ end. MatchOption end (Advances state.old state.new line.now) (StopsRun state.old state.new line.now)) }
+    ensures { IfOk result (λ end. MatchOption end (AdvancesRun state.old state.new line.now) (StopsRun state.old state.new line.now)) }
 {
     if state.book.instants() == INSTANTS {
         return Ok(Some(RunEnd::TooManyLines));

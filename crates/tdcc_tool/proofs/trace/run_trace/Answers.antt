@@ -4,7 +4,7 @@ use Rattle.tdcc_base.specs.declared.stops.LineEnd.TheVariants as line_ends
 use Rattle.tdcc_base.specs.declared.stops.ReadStop.TheVariants as stops
 use Rattle.tdcc_base.specs.Lines.{ReadsLine}
 use Rattle.tdcc_base.specs.Waiting.{waiting, line_read}
-use Rattle.tdcc_tool.specs.Steps.{Advances, StopsRun}
+use Rattle.tdcc_tool.specs.Steps.{AdvancesRun, StopsRun}
 use Rattle.tdcc_tool.proofs.RunSteps.{progress-start, ended_whole, ended_at, ended_long, goes_on}
 use Rattle.tdcc_tool.proofs.trace.run_trace.Invariants.{settings_of}
 use Rattle.tdcc_tool.proofs.trace.run_trace.Goals as goal
@@ -49,7 +49,7 @@ pub lines-preserved : goal.lines-preserved
 lines-preserved g c =
     let h = subst (λ (k : ℕ). ReadsLine k (waiting g.S.Source.left c.lines.lines) (waiting g.S.Source.left c.read_line.new.self) (line_read c.read_line.new.self) (Ok line_ends.Line))
     c.lines.invariant.limit ((rw c.in-Ok-Line.field-0-is at c.in-Ok-Line.ensures.line) c.lines.invariant.going_on) in
-    let k : Advances c.lines.state c.run_line.new.state c.line.result.now = rw c.in_default.is at c.in_ok-end-in-Ok-Line.ensures in
+    let k : AdvancesRun c.lines.state c.run_line.new.state c.line.result.now = rw c.in_default.is at c.in_ok-end-in-Ok-Line.ensures in
     record {
       same = c.in-Ok-Line.ensures.same_reference ∙ c.lines.invariant.same;
       ready = c.in-Ok-Line.ensures.ready;
@@ -58,5 +58,5 @@ lines-preserved g c =
       later = omega (arith, c.in-Ok-Line.ensures.faults_only_rise);
       steady = λ h. ((c.in-Ok-Line.ensures.steady c.lines.invariant.going_on) (c.lines.invariant.steady h)).0;
       so_far = goes_on (settings_of c.args.start) (waiting g.S.Source.left c.args.lines.now) (waiting g.S.Source.left c.lines.lines) (waiting g.S.Source.left c.read_line.new.self) (line_read c.read_line.new.self) c.lines.state c.run_line.new.state c.lines.invariant.so_far h
-          (subst (λ (l : List ℕ). Advances c.lines.state c.run_line.new.state l) c.line.ensures k);
+          (subst (λ (l : List ℕ). AdvancesRun c.lines.state c.run_line.new.state l) c.line.ensures k);
     }
