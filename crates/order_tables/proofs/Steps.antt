@@ -33,13 +33,13 @@ needs-below bounds t a i within some least =
     let l = ranks-below bounds (length t) within good a.high w.1 in
     omega arith
 
-set-least : (bounds : List Bound) (t : List ℕ) (a : Bound) → Contains bounds a → Within (length t) a → IsLeast bounds t → IsLeast bounds (set t a.high (needs t a))
+pub set-least : (bounds : List Bound) (t : List ℕ) (a : Bound) → Contains bounds a → Within (length t) a → IsLeast bounds t → IsLeast bounds (set t a.high (needs t a))
 set-least bounds t a i w least other meets =
     let m : Satisfies other a = all_at (Satisfies other) bounds a meets i in
     let low = least other meets a.low w.0 in
     set_each (λ k x. x ≤ slice_index other k) t a.high (needs t a) w.1 (omega arith) (least other meets)
 
-set-sum : (t : List ℕ) (h v : ℕ) → h < length t → slice_index t h < v → sum t < sum (set t h v)
+pub set-sum : (t : List ℕ) (h v : ℕ) → h < length t → slice_index t h < v → sum t < sum (set t h v)
 set-sum t h v in_range lt = let e = sum_by-set (λ (x : ℕ). x) t h v 0 in_range in omega arith
 
 one_row : (n m : ℕ) → n * suc m ≡ n + n * m

@@ -8,3 +8,4 @@ pub mod Extended
 pub mod CaseEdges
 pub mod Searches
 pub mod Results
+pub mod Decided

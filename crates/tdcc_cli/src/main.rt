@@ -2,15 +2,13 @@
 //! does all the work.
 #![tactic(auto)]
 
-ghost use Rattle.std.specs.Prelude.{◌≡◌, ℕ, List, IfSome};
-ghost use Rattle.std.specs.Io.KnownBytes.{Appends};
+ghost use Rattle.std.specs.Prelude.{◌≡◌};
 ghost use Rattle.std.specs.Process.{exit_status};
 ghost use Rattle.tdcc_base.specs.Statuses.{status_number};
 ghost use Rattle.tdcc_base.specs.Written.{WritesUntilFault};
 ghost use Rattle.tdcc_base.specs.declared.status.Status.{Status as StatusValue};
 ghost use Rattle.tdcc_base.specs.declared.status.Status.TheVariants as statuses;
-ghost use Rattle.tdcc_tool.specs.Answers.{Answers};
-ghost use Rattle.tdcc_tool.specs.Ends.{IsSettled};
+ghost use Rattle.tdcc_tool.specs.Contract.{KeepsContract};
 ghost use Rattle.tdcc_tool.specs.Messages.{memory_line};
 
 use std::alloc::Global;
@@ -41,11 +39,14 @@ fn answered<R: Threads + Sync, S: Source, K: Sink, E: Sink>(
     out: &mut K,
     err: &mut E,
 ) -> ExitCode
-    // The code is a status, and where nothing cut the call short that of the defined answer.
-    ensures { (s : StatusValue) × (exit_status result ≡ status_number s) × (IsSettled s → IfSome (S.left source.old) (λ bytes. (o e : List ℕ) ×
-        Answers words.now bytes s o e
-        × Appends (K.written out.old) (K.written out.new) o
-        × WritesUntilFault (E.written err.old) (E.written err.new) (E.faults err.old) (E.faults err.new) e)) }
+    // The code is the number of a status with which the call keeps the whole contract of `tdcc`.
+    ensures { (s : StatusValue) × (exit_status result ≡ status_number s) × KeepsContract words.now s
+        (record { left = S.left source.old; faults = S.faults source.old; steady = S.steady source.old })
+        (record { left = S.left source.new; faults = S.faults source.new; steady = S.steady source.new })
+        (record { written = K.written out.old; faults = K.faults out.old; room = K.room out.old })
+        (record { written = K.written out.new; faults = K.faults out.new; room = K.room out.new })
+        (record { written = E.written err.old; faults = E.faults err.old; room = E.room err.old })
+        (record { written = E.written err.new; faults = E.faults err.new; room = E.room err.new }) }
 {
     let status = tdcc(rt, alloc, words, source, out, err, &OpenGate);
     ExitCode::from(status.number())

@@ -20,11 +20,11 @@ use Rattle.expansion_laws.specs.Expansions.{IsExpansion, IsSymbolicOf}
 use Rattle.expansion_laws.proofs.WholePrograms.{expansion_program, one_expansion, one_symbolic, nodes_many, cells_many}
 use Rattle.derived_forms.specs.declared.fault.ExpandFault.TheVariants as sizes
 use Rattle.derived_forms.specs.Refusals as expansion
-use Rattle.tdcc_tool.specs.Accepted.{IsBuilt, Accepts}
+use Rattle.tdcc_tool.specs.Accepted.{IsTextOf, IsAccepted}
 use Rattle.tdcc_tool.specs.TextFaults.{HasFault, misread, many_nodes, many_cells}
 
 -- the program of a text is a program, with names that can be written and read back
-pub built_program : (text : List ℕ) (p : CoreProgram) → IsBuilt text p → IsWellFormed p
+pub built_program : (text : List ℕ) (p : CoreProgram) → IsTextOf text p → IsWellFormed p
 built_program text p a =
     let (d, drawn, made) = a.core.expansion in
     expansion_program a.surface (surface_formed a.surface (text, a.reads)) d p made a.core.few_nodes a.core.few_cells drawn
@@ -40,13 +40,13 @@ same_surfaces q s t a b =
 one_surface : (text : List ℕ) (s t : SurfaceProgram) → ReadsAs Program text s → ReadsAs Program text t → s ≡ t
 one_surface text s t (q, a, is) (r, b, is') = same_surfaces q s t is (subst (λ (x : Phrase). IsSurfaceOf x t) (sym (one_phrase Program text q r a b)) is')
 
-pub one_built : (text : List ℕ) (p q : CoreProgram) → IsBuilt text p → IsBuilt text q → p ≡ q
+pub one_built : (text : List ℕ) (p q : CoreProgram) → IsTextOf text p → IsTextOf text q → p ≡ q
 one_built text p q a b =
     let same = one_surface text b.surface a.surface b.reads a.reads in
     one_expansion a.surface p q a.core.expansion (subst (λ (s : SurfaceProgram). IsExpansion s q) same b.core.expansion)
 
 -- a text whose program is built has no fault
-pub built_no_fault : (text : List ℕ) (p : CoreProgram) (f : ReadFault) → IsBuilt text p → HasFault text f → ⊥
+pub built_no_fault : (text : List ℕ) (p : CoreProgram) (f : ReadFault) → IsTextOf text p → HasFault text f → ⊥
 built_no_fault text p f a (misread f' says refuses) = read_not_refused Program text a.surface f says a.reads refuses
 built_no_fault text p f a (many_nodes s reads (d, is, many)) =
     let (e, drawn, made) = a.core.expansion in
@@ -87,8 +87,8 @@ misread_if text (Ok x) h = tt
 misread_if text (Err f) h = λ says. misread f says h
 
 -- so are the texts that run
-pub accepted_program : (text : List ℕ) (p : CoreProgram) → Accepts text p → IsWellFormed p
+pub accepted_program : (text : List ℕ) (p : CoreProgram) → IsAccepted text p → IsWellFormed p
 accepted_program text p a = built_program text p a.built
 
-pub one_accepted : (text : List ℕ) (p q : CoreProgram) → Accepts text p → Accepts text q → p ≡ q
+pub one_accepted : (text : List ℕ) (p q : CoreProgram) → IsAccepted text p → IsAccepted text q → p ≡ q
 one_accepted text p q a b = one_built text p q a.built b.built

@@ -7,11 +7,11 @@ use Rattle.command_words.specs.declared.command.Command.TheVariants.{Run, Report
 use Rattle.command_words.proofs.NetRange.{net_range}
 use Rattle.tdcc_tool.specs.declared.answer.Answer.{Answer}
 use Rattle.tdcc_tool.specs.declared.task.Task.{Task}
-use Rattle.tdcc_tool.specs.Answers.{AnswersBy, AnswersTo, IsCommand}
-use Rattle.tdcc_tool.specs.Tasks.{HasNetLimit, IsGenerated, IsRun, ReadsTrace, input_of, task_of}
+use Rattle.tdcc_tool.specs.Answers.{AnswersBy, AnswersTo, WordsCall}
+use Rattle.tdcc_tool.specs.Tasks.{HasNetLimit, IsGenerated, RunsProgram, ReadsTrace, input_of, task_of}
 
 -- an instant may have as many leaves as a net may
-pub has_net_limit : (words : List (String Global)) (command : Command) → IsCommand command words → HasNetLimit (task_of command)
+pub has_net_limit : (words : List (String Global)) (command : Command) → WordsCall command words → HasNetLimit (task_of command)
 has_net_limit words (Run limits) is = net_range is.more limits is.given
 has_net_limit words (Report limits) is = net_range is.more limits is.given
 has_net_limit words Check is = tt
@@ -19,7 +19,7 @@ has_net_limit words Core is = tt
 has_net_limit words (Generate n) is = omega arith
 
 -- what reads a trace runs it
-pub runs_trace : (command : Command) → ReadsTrace command → IsRun (task_of command)
+pub runs_trace : (command : Command) → ReadsTrace command → RunsProgram (task_of command)
 runs_trace (Run limits) reads = tt
 runs_trace (Report limits) reads = tt
 runs_trace Check reads = absurd reads
@@ -49,6 +49,6 @@ answered_by command task None (Ok a) same not h = tt
 answered_by command task (Some bytes) (Ok a) same not h =
     subst (λ (bs : List ℕ). AnswersTo (task_of command) bs a.status a.out.items a.err.items) (sym (own_input command bytes not)) (subst (λ (t : Task). AnswersTo t bytes a.status a.out.items a.err.items) same h)
 
-pub ended_by : {E : Type 0} (command : Command) (task : Task) (Q : Answer → Type 0) (r : Result Answer E) → task ≡ task_of command → IfOk r (λ a. IsRun task → Q a) → IfOk r (λ a. ReadsTrace command → Q a)
+pub ended_by : {E : Type 0} (command : Command) (task : Task) (Q : Answer → Type 0) (r : Result Answer E) → task ≡ task_of command → IfOk r (λ a. RunsProgram task → Q a) → IfOk r (λ a. ReadsTrace command → Q a)
 ended_by command task Q (Err e) same h = tt
-ended_by command task Q (Ok a) same h = λ reads. h (subst IsRun (sym same) (runs_trace command reads))
+ended_by command task Q (Ok a) same h = λ reads. h (subst RunsProgram (sym same) (runs_trace command reads))

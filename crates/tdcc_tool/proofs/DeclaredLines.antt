@@ -5,7 +5,7 @@ use Rattle.std.proofs.lemmas.Option.{slice_get-get_or, slice_get_within}
 use Rattle.std.specs.Prelude.{filter, is_some, slice_get, take, Option, unwrap_or}
 use Rattle.std.specs.List.{join_with_byte, range_with_len, sum_by}
 use Rattle.std.specs.Option.{option_copied}
-use Rattle.tdcc_tool.specs.Writings.{is_told, last_line}
+use Rattle.tdcc_tool.specs.RunTexts.{is_told, last_line}
 use Rattle.token_system.specs.declared.cell.Value.{Value}
 use Rattle.token_system.specs.declared.cell.Cell.{Cell}
 use Rattle.token_system.specs.declared.name.CellName.TheVariants.{Declared}

@@ -29,12 +29,12 @@ use Rattle.generated_laws.proofs.Built.{small}
 use Rattle.generated_laws.proofs.Parted.{parted}
 use Rattle.generated_laws.proofs.PartNews.{few, few_ran}
 use Rattle.generated_laws.proofs.SignalLines.{trace_given}
-use Rattle.tdcc_tool.specs.declared.writing.Writing.TheVariants.{Summary}
-use Rattle.tdcc_tool.specs.Accepted.{Accepts}
-use Rattle.tdcc_tool.specs.Answers.{GiveInputs, KeepsLimits, AnswersBy, IsCommand}
+use Rattle.tdcc_tool.specs.declared.output.OutputMode.TheVariants.{Summary}
+use Rattle.tdcc_tool.specs.Accepted.{IsAccepted}
+use Rattle.tdcc_tool.specs.Answers.{GiveInputs, KeepsLimits, AnswersBy, WordsCall}
 use Rattle.tdcc_tool.specs.Completeness.{RunsThrough, EndsWhole}
 use Rattle.tdcc_tool.specs.Tasks.{usual_limits, IsGenerated}
-use Rattle.tdcc_tool.specs.Writings.{each_after, ran_after}
+use Rattle.tdcc_tool.specs.RunTexts.{each_after, ran_after}
 use Rattle.tdcc_tool.proofs.OneAnswer.{one_command}
 use Rattle.tdcc_tool.proofs.RunSteps.{given_long}
 use Rattle.tdcc_tool.proofs.WholeRuns.{whole_status}
@@ -64,7 +64,7 @@ module _ (n : ℕ) where
   text_reads = let is = parted n in subst (λ (text : List ℕ). ReadsAs Program text (surface n)) (sym is.text) (line_read n)
 
   module _ (p : CoreProgram) (is : IsExpansion (surface n) p) where
-    accepted : Accepts (program_text_of (input_bytes n)) p
+    accepted : IsAccepted (program_text_of (input_bytes n)) p
     accepted =
         let low = small n p is in
         let nodes = low.few_nodes in
@@ -118,7 +118,7 @@ module _ (n : ℕ) where
 -- THE CALL
 
 -- the answer to the words of a generated run is its end, whatever the bytes of the source
-made_whole : (command : Command) (words : List (String Global)) (bytes : List ℕ) (s : Status) (o e : List ℕ) → IsCommand command words → IsGenerated command → AnswersBy command bytes s o e → s ≡ statuses.Ok
+made_whole : (command : Command) (words : List (String Global)) (bytes : List ℕ) (s : Status) (o e : List ℕ) → WordsCall command words → IsGenerated command → AnswersBy command bytes s o e → s ≡ statuses.Ok
 made_whole (commands.Generate n) words bytes s o e is made answer = whole_status (input_bytes n) Summary usual_limits (generated_through n is.allowed.1) s o e answer
 made_whole (commands.Run limits) words bytes s o e is made answer = absurd made
 made_whole (commands.Report limits) words bytes s o e is made answer = absurd made
@@ -126,8 +126,8 @@ made_whole commands.Check words bytes s o e is made answer = absurd made
 made_whole commands.Core words bytes s o e is made answer = absurd made
 
 -- So a call with these words goes to its end.
-pub generated_whole : (words : List (String Global)) (called : Command) (s : Status) (o e : List ℕ) (source_failed sink_failed : Type 0) → IsCommand called words → ((bytes : List ℕ) → IsGenerated called → AnswersBy called bytes s o e)
-    → (command : Command) → IsCommand command words → IsGenerated command → EndsWhole s source_failed sink_failed
+pub generated_whole : (words : List (String Global)) (called : Command) (s : Status) (o e : List ℕ) (source_failed sink_failed : Type 0) → WordsCall called words → ((bytes : List ℕ) → IsGenerated called → AnswersBy called bytes s o e)
+    → (command : Command) → WordsCall command words → IsGenerated command → EndsWhole s source_failed sink_failed
 generated_whole words called s o e f g is answers command other made =
     let made' : IsGenerated called = subst IsGenerated (one_command words command called other is) made in
     subst (λ (x : Status). EndsWhole x f g) (sym (made_whole called words [] s o e is made' (answers [] made'))) tt

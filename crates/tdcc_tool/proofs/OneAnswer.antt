@@ -15,12 +15,12 @@ use Rattle.command_words.specs.declared.settings.Limits.{Limits}
 use Rattle.command_words.proofs.CommandWords.{one_command as one_called}
 use Rattle.tdcc_tool.specs.declared.task.Task.{Task}
 use Rattle.tdcc_tool.specs.declared.task.Task.TheVariants as tasks
-use Rattle.tdcc_tool.specs.declared.writing.Writing.{Writing}
+use Rattle.tdcc_tool.specs.declared.output.OutputMode.{OutputMode}
 use Rattle.tdcc_tool.specs.Checks.{CheckAnswer, check_text}
 use Rattle.tdcc_tool.specs.Tasks.{task_of, input_of}
 use Rattle.tdcc_tool.specs.Messages.{program_line, strata_line}
 use Rattle.tdcc_tool.specs.RefusedCases.{IsRefusedCase}
-use Rattle.tdcc_tool.specs.Answers.{CaseAnswer, ProgramAnswer, CoreAnswer, AnswersOf, AnswersTo, AnswersBy, IsCommand, HaveOneAnswer}
+use Rattle.tdcc_tool.specs.Answers.{CaseAnswer, ProgramAnswer, CoreAnswer, AnswersOf, AnswersTo, AnswersBy, WordsCall, HaveOneAnswer}
 use Rattle.tdcc_tool.specs.Laws.{AcceptedHaveOneOutput, AcceptedHaveOneRun}
 use Rattle.tdcc_tool.proofs.AcceptedPrograms.{accepted_program, built_program, one_built, one_text_fault, built_no_fault}
 use Rattle.tdcc_tool.proofs.RunAnswers.{one_run_answer}
@@ -56,11 +56,11 @@ one_case_answer p s s' o o' e e' x y =
     (x.is ∙ sym y.is, x.nothing ∙ sym y.nothing, x.line ∙ one_refused_line p x.guard x.told x.node y.guard y.told y.node x.case y.case ∙ sym y.line)
 
 -- the answer of a program to its lines is one
-one_program_answer : (p : CoreProgram) (writing : Writing) (limits : Limits) (lines : List (List ℕ)) (s s' : Status) (o o' e e' : List ℕ) → IsWellFormed p → ProgramAnswer p writing limits lines s o e → ProgramAnswer p writing limits lines s' o' e' → AreSame s s' o o' e e'
-one_program_answer p writing limits lines s s' o o' e e' is (inl x) (inl y) = one_case_answer p s s' o o' e e' x y
-one_program_answer p writing limits lines s s' o o' e e' is (inl x) (inr (table, fits, y)) = absurd (x.case.none table fits)
-one_program_answer p writing limits lines s s' o o' e e' is (inr (table, fits, x)) (inl y) = absurd (y.case.none table fits)
-one_program_answer p writing limits lines s s' o o' e e' is (inr (table, fits, x)) (inr (table', fits', y)) = one_run_answer p is table fits writing limits lines s s' o o' e e' x y
+one_program_answer : (p : CoreProgram) (mode : OutputMode) (limits : Limits) (lines : List (List ℕ)) (s s' : Status) (o o' e e' : List ℕ) → IsWellFormed p → ProgramAnswer p mode limits lines s o e → ProgramAnswer p mode limits lines s' o' e' → AreSame s s' o o' e e'
+one_program_answer p mode limits lines s s' o o' e e' is (inl x) (inl y) = one_case_answer p s s' o o' e e' x y
+one_program_answer p mode limits lines s s' o o' e e' is (inl x) (inr (table, fits, y)) = absurd (x.case.none table fits)
+one_program_answer p mode limits lines s s' o o' e e' is (inr (table, fits, x)) (inl y) = absurd (y.case.none table fits)
+one_program_answer p mode limits lines s s' o o' e e' is (inr (table, fits, x)) (inr (table', fits', y)) = one_run_answer p is table fits mode limits lines s s' o o' e e' x y
 
 one_core_answer : (p : CoreProgram) (s s' : Status) (o o' e e' : List ℕ) → CoreAnswer p s o e → CoreAnswer p s' o' e' → AreSame s s' o o' e e'
 one_core_answer p s s' o o' e e' x y = (x.is ∙ sym y.is, x.written ∙ sym y.written, x.nothing ∙ sym y.nothing)
@@ -83,7 +83,7 @@ one_check_answer p s s' o o' e e' x y =
     (x.is ∙ sym y.is, x.written ∙ ap (check_text p) tables ∙ sym y.written, x.nothing ∙ sym y.nothing)
 
 one_answer_of : (task : Task) (p : CoreProgram) (bytes : List ℕ) (s s' : Status) (o o' e e' : List ℕ) → IsWellFormed p → AnswersOf task p bytes s o e → AnswersOf task p bytes s' o' e' → AreSame s s' o o' e e'
-one_answer_of (tasks.Run writing limits) p bytes s s' o o' e e' is x y = one_program_answer p writing limits (lines_of (trace_of bytes)) s s' o o' e e' is x y
+one_answer_of (tasks.Run mode limits) p bytes s s' o o' e e' is x y = one_program_answer p mode limits (lines_of (trace_of bytes)) s s' o o' e e' is x y
 one_answer_of tasks.Check p bytes s s' o o' e e' is (inl x) (inl y) = one_case_answer p s s' o o' e e' x y
 one_answer_of tasks.Check p bytes s s' o o' e e' is (inl x) (inr y) = absurd (x.case.none y.table y.stratified)
 one_answer_of tasks.Check p bytes s s' o o' e e' is (inr x) (inl y) = absurd (y.case.none x.table x.stratified)
@@ -101,7 +101,7 @@ one_answer_to task bytes s s' o o' e e' (inr (p, built, x)) (inr (q, built', y))
     one_answer_of task p bytes s s' o o' e e' (built_program (program_text_of bytes) p built) x (subst (λ (r : CoreProgram). AnswersOf task r bytes s' o' e') same y)
 
 -- words are those of one command
-pub one_command : (words : List (String Global)) (a b : Command) → IsCommand a words → IsCommand b words → a ≡ b
+pub one_command : (words : List (String Global)) (a b : Command) → WordsCall a words → WordsCall b words → a ≡ b
 one_command words a b x y = one_called (map string_bytes words) a b x y
 
 -- the answer is one

@@ -13,8 +13,8 @@ use Rattle.agent_core.specs.Outputs.{IsOutput, IsRun}
 use Rattle.agent_core.specs.Strata.{Stratifies}
 use Rattle.agent_laws.proofs.ProgramOutputs.{one_output}
 use Rattle.agent_laws.proofs.Runs.{one_run}
-use Rattle.tdcc_tool.specs.declared.end.End.{End}
-use Rattle.tdcc_tool.specs.declared.end.End.TheVariants as ends
+use Rattle.tdcc_tool.specs.declared.run_end.RunEnd.{RunEnd}
+use Rattle.tdcc_tool.specs.declared.run_end.RunEnd.TheVariants as ends
 use Rattle.trace_text.specs.declared.fault.LineFault.{LineFault}
 use Rattle.trace_text.specs.declared.fault.LineFault.TheVariants as faults
 use Rattle.trace_text.specs.Inputs.{GivesInput}
@@ -22,11 +22,11 @@ use Rattle.trace_text.specs.Refusals.{RefusesLine}
 use Rattle.trace_text.proofs.GivenInputs.{one_input}
 use Rattle.trace_text.proofs.Refused.{one_line_fault, given_not_refused}
 use Rattle.command_words.specs.declared.settings.Limits.{Limits}
-use Rattle.tdcc_tool.specs.declared.writing.Writing.{Writing}
+use Rattle.tdcc_tool.specs.declared.output.OutputMode.{OutputMode}
 use Rattle.tdcc_tool.specs.RunEnds.{IsBadLine, IsDue, EndsAt, EndsBy, status_of, end_line}
 use Rattle.tdcc_tool.specs.Answers.{GiveInputs, KeepsLimits, RunAnswer}
-use Rattle.tdcc_tool.specs.Writings.{spent, written}
-use Rattle.tdcc_tool.proofs.Writings.{spent-front}
+use Rattle.tdcc_tool.specs.RunTexts.{spent, written}
+use Rattle.tdcc_tool.proofs.RunTexts.{spent-front}
 
 -- FRONTS OF LISTS
 
@@ -103,22 +103,22 @@ module _ (p : CoreProgram) where
   due_not_bad n line fault input due bad = not_bad n line fault (input, due.given) bad
 
   -- where all lines give inputs, and a run on these keeps the limits, no front of it ends at a line
-  pub front_goes_on : (table : List ℕ) → IsWellFormed p → Stratifies p table → (limits : Limits) (ins outs : List StoreMap) (n : ℕ) (line : List ℕ) (end : End) → IsRun p ins outs → length ins ≤ 65536 → KeepsLimits p limits outs → n < length ins
+  pub front_goes_on : (table : List ℕ) → IsWellFormed p → Stratifies p table → (limits : Limits) (ins outs : List StoreMap) (n : ℕ) (line : List ℕ) (end : RunEnd) → IsRun p ins outs → length ins ≤ 65536 → KeepsLimits p limits outs → n < length ins
       → (i : StoreMap) → slice_get ins n ≡ Some i → GivesInput p line i → EndsAt p limits (take n outs) line end → ⊥
-  front_goes_on table is strat limits ins outs n line ends.Whole run few within lt i at given h = h
-  front_goes_on table is strat limits ins outs n line (ends.Line fault) run few within lt i at given h = not_bad (length (take n outs)) line fault (i, given) h
-  front_goes_on table is strat limits ins outs n line ends.Many run few within lt i at given h =
+  front_goes_on table is strat limits ins outs n line ends.Completed run few within lt i at given h = h
+  front_goes_on table is strat limits ins outs n line (ends.BadLine fault) run few within lt i at given h = not_bad (length (take n outs)) line fault (i, given) h
+  front_goes_on table is strat limits ins outs n line ends.TooManyLines run few within lt i at given h =
       let whole = run.whole in
       let long = length-take-le n outs (let k : n ≤ length outs = omega arith in k) in
       let many = h.1 in
       omega arith
-  front_goes_on table is strat limits ins outs n line (ends.Net count) run few within lt i at given h =
+  front_goes_on table is strat limits ins outs n line (ends.NetFull count) run few within lt i at given h =
       let whole = run.whole in
       let fits = within.net n (let k : n < length outs = omega arith in k) in
       let over = h.2.over in
       let same = h.2.counted in
       omega arith
-  front_goes_on table is strat limits ins outs n line (ends.Fuel count) run few within lt i at given (input, due, over) =
+  front_goes_on table is strat limits ins outs n line (ends.FuelSpent count) run few within lt i at given (input, due, over) =
       let whole = run.whole in
       let there : n < length outs = omega arith in
       let v : StoreMap = get_or outs n empty in
@@ -135,31 +135,31 @@ module _ (p : CoreProgram) where
 
   module _ (table : List ℕ) (is : IsWellFormed p) (strat : Stratifies p table) (limits : Limits) where
     -- a run ends in one way at a line
-    same_at : (outs : List StoreMap) (line : List ℕ) (e e' : End) → EndsAt p limits outs line e → EndsAt p limits outs line e' → e ≡ e'
-    same_at outs line ends.Whole e' h h' = absurd h
-    same_at outs line e ends.Whole h h' = absurd h'
-    same_at outs line ends.Many ends.Many h h' = refl
-    same_at outs line (ends.Line f) (ends.Line g) h h' = ap ends.Line (one_line_fault p line f g h.says h'.says h.refused h'.refused)
-    same_at outs line (ends.Net c) (ends.Net c') h h' = ap ends.Net (h.2.counted ∙ sym h'.2.counted)
-    same_at outs line (ends.Fuel c) (ends.Fuel c') (i, due, over) (i', due', over') =
+    same_at : (outs : List StoreMap) (line : List ℕ) (e e' : RunEnd) → EndsAt p limits outs line e → EndsAt p limits outs line e' → e ≡ e'
+    same_at outs line ends.Completed e' h h' = absurd h
+    same_at outs line e ends.Completed h h' = absurd h'
+    same_at outs line ends.TooManyLines ends.TooManyLines h h' = refl
+    same_at outs line (ends.BadLine f) (ends.BadLine g) h h' = ap ends.BadLine (one_line_fault p line f g h.says h'.says h.refused h'.refused)
+    same_at outs line (ends.NetFull c) (ends.NetFull c') h h' = ap ends.NetFull (h.2.counted ∙ sym h'.2.counted)
+    same_at outs line (ends.FuelSpent c) (ends.FuelSpent c') (i, due, over) (i', due', over') =
         let inputs : i' ≡ i = one_input p line i' i due'.given due.given in
         let outputs : over.output ≡ over'.output = one_output p table is strat outs i over.output over'.output over.is (subst (λ (j : StoreMap). IsOutput p outs j over'.output) inputs over'.is) in
-        ap ends.Fuel (over.counted ∙ ap (λ (v : StoreMap). spent p (outs ++ v ∷ [])) outputs ∙ sym over'.counted)
-    same_at outs line (ends.Line f) ends.Many h h' = absurd (not_many (length outs) line f h'.0 h'.1 h)
-    same_at outs line ends.Many (ends.Line f) h h' = absurd (not_many (length outs) line f h.0 h.1 h')
-    same_at outs line (ends.Line f) (ends.Net c) h h' = absurd (due_not_bad (length outs) line f h'.0 h'.1 h)
-    same_at outs line (ends.Net c) (ends.Line f) h h' = absurd (due_not_bad (length outs) line f h.0 h.1 h')
-    same_at outs line (ends.Line f) (ends.Fuel c) h h' = absurd (due_not_bad (length outs) line f h'.0 h'.1 h)
-    same_at outs line (ends.Fuel c) (ends.Line f) h h' = absurd (due_not_bad (length outs) line f h.0 h.1 h')
-    same_at outs line ends.Many (ends.Net c) h h' = absurd (let few = h'.1.few in let many = h.1 in omega arith)
-    same_at outs line (ends.Net c) ends.Many h h' = absurd (let few = h.1.few in let many = h'.1 in omega arith)
-    same_at outs line ends.Many (ends.Fuel c) h h' = absurd (let few = h'.1.few in let many = h.1 in omega arith)
-    same_at outs line (ends.Fuel c) ends.Many h h' = absurd (let few = h.1.few in let many = h'.1 in omega arith)
-    same_at outs line (ends.Net c) (ends.Fuel c') h h' = absurd (let over = h.2.over in let counted = h.2.counted in let fits = h'.2.fits in omega arith)
-    same_at outs line (ends.Fuel c) (ends.Net c') h h' = absurd (let over = h'.2.over in let counted = h'.2.counted in let fits = h.2.fits in omega arith)
+        ap ends.FuelSpent (over.counted ∙ ap (λ (v : StoreMap). spent p (outs ++ v ∷ [])) outputs ∙ sym over'.counted)
+    same_at outs line (ends.BadLine f) ends.TooManyLines h h' = absurd (not_many (length outs) line f h'.0 h'.1 h)
+    same_at outs line ends.TooManyLines (ends.BadLine f) h h' = absurd (not_many (length outs) line f h.0 h.1 h')
+    same_at outs line (ends.BadLine f) (ends.NetFull c) h h' = absurd (due_not_bad (length outs) line f h'.0 h'.1 h)
+    same_at outs line (ends.NetFull c) (ends.BadLine f) h h' = absurd (due_not_bad (length outs) line f h.0 h.1 h')
+    same_at outs line (ends.BadLine f) (ends.FuelSpent c) h h' = absurd (due_not_bad (length outs) line f h'.0 h'.1 h)
+    same_at outs line (ends.FuelSpent c) (ends.BadLine f) h h' = absurd (due_not_bad (length outs) line f h.0 h.1 h')
+    same_at outs line ends.TooManyLines (ends.NetFull c) h h' = absurd (let few = h'.1.few in let many = h.1 in omega arith)
+    same_at outs line (ends.NetFull c) ends.TooManyLines h h' = absurd (let few = h.1.few in let many = h'.1 in omega arith)
+    same_at outs line ends.TooManyLines (ends.FuelSpent c) h h' = absurd (let few = h'.1.few in let many = h.1 in omega arith)
+    same_at outs line (ends.FuelSpent c) ends.TooManyLines h h' = absurd (let few = h.1.few in let many = h'.1 in omega arith)
+    same_at outs line (ends.NetFull c) (ends.FuelSpent c') h h' = absurd (let over = h.2.over in let counted = h.2.counted in let fits = h'.2.fits in omega arith)
+    same_at outs line (ends.FuelSpent c) (ends.NetFull c') h h' = absurd (let over = h'.2.over in let counted = h'.2.counted in let fits = h.2.fits in omega arith)
 
     -- and in one way at all
-    pub same_end : (lines : List (List ℕ)) (outs : List StoreMap) (e e' : End) → EndsBy p limits lines outs e → EndsBy p limits lines outs e' → e ≡ e'
+    pub same_end : (lines : List (List ℕ)) (outs : List StoreMap) (e e' : RunEnd) → EndsBy p limits lines outs e → EndsBy p limits lines outs e' → e ≡ e'
     same_end lines outs e e' (inl h) (inl h') = h.0 ∙ sym h'.0
     same_end lines outs e e' (inl h) (inr (line, at, ends)) = absurd (past_end lines line (subst (λ (k : ℕ). slice_get lines k ≡ Some line) h.1 at))
     same_end lines outs e e' (inr (line, at, ends)) (inl h) = absurd (past_end lines line (subst (λ (k : ℕ). slice_get lines k ≡ Some line) h.1 at))
@@ -167,7 +167,7 @@ module _ (p : CoreProgram) where
         same_at outs line e e' ends (subst (λ (l : List ℕ). EndsAt p limits outs l e') (same_line lines (length outs) line' line at' at) ends')
 
     -- a run does not end where a longer one goes on
-    pub goes_past : (lines : List (List ℕ)) (ins outs : List StoreMap) (n : ℕ) (e : End) → GiveInputs p (take (length ins) lines) ins → IsRun p ins outs → length ins ≤ 65536 → KeepsLimits p limits outs → n < length ins
+    pub goes_past : (lines : List (List ℕ)) (ins outs : List StoreMap) (n : ℕ) (e : RunEnd) → GiveInputs p (take (length ins) lines) ins → IsRun p ins outs → length ins ≤ 65536 → KeepsLimits p limits outs → n < length ins
         → EndsBy p limits lines (take n outs) e → ⊥
     goes_past lines ins outs n e given run few within-limits lt (inl h) =
         let whole = run.whole in
@@ -188,9 +188,9 @@ module _ (p : CoreProgram) where
   same_front (l ∷ lines) (i ∷ a) (j ∷ b) x y le =
       ap (λ (k : StoreMap). k ∷ a) (one_input p l i j x.0 y.0) ∙ ap (λ (ks : List StoreMap). j ∷ ks) (same_front lines a b x.1 y.1 (let h : length a ≤ length b = omega arith in h))
 
-  module _ (is : IsWellFormed p) (table : List ℕ) (strat : Stratifies p table) (writing : Writing) (limits : Limits) (lines : List (List ℕ)) where
+  module _ (is : IsWellFormed p) (table : List ℕ) (strat : Stratifies p table) (mode : OutputMode) (limits : Limits) (lines : List (List ℕ)) where
     abbrev IsAnswer : Status → List ℕ → List ℕ → Type 0
-    IsAnswer s o e = RunAnswer p writing limits lines s o e
+    IsAnswer s o e = RunAnswer p mode limits lines s o e
 
     -- the shorter of two runs is a prefix of the longer
     front_outs : (s s' : Status) (o o' e e' : List ℕ) (a : IsAnswer s o e) (b : IsAnswer s' o' e') → length a.ins ≤ length b.ins → a.outs ≡ take (length a.ins) b.outs
@@ -212,6 +212,6 @@ module _ (p : CoreProgram) where
         let outs : a.outs ≡ b.outs = front_outs s s' o o' e e' a b (omega (arith, count)) ∙ take_all (length a.ins) b.outs (omega (arith, count, whole)) in
         let end : a.end ≡ b.end = same_end table is strat limits lines b.outs a.end b.end (subst (λ (z : List StoreMap). EndsBy p limits lines z a.end) outs a.ends) b.ends in (
           a.status_is ∙ ap status_of end ∙ sym b.status_is,
-          a.told_out ∙ ap (written writing p) outs ∙ sym b.told_out,
+          a.told_out ∙ ap (written mode p) outs ∙ sym b.told_out,
           a.told_err ∙ ap (λ (z : List StoreMap). end_line (length z) a.end) outs ∙ ap (end_line (length b.outs)) end ∙ sym b.told_err,
         )

@@ -15,11 +15,11 @@ use Rattle.command_words.specs.declared.settings.Limits.{Limits}
 use Rattle.tdcc_reader.specs.declared.fault.ReadFault.TheVariants.{TextTooLong}
 use Rattle.tdcc_reader.specs.declared.fault.ReadFault.{ReadFault}
 use Rattle.tdcc_tool.specs.declared.answer.Answer.{Answer}
-use Rattle.tdcc_tool.specs.declared.course.Course.{Course}
+use Rattle.tdcc_tool.specs.declared.run_state.RunState.{RunState}
 use Rattle.tdcc_tool.specs.declared.task.Task.{Task}
 use Rattle.tdcc_tool.specs.declared.task.Task.TheVariants as tasks
-use Rattle.tdcc_tool.specs.declared.writing.Writing.{Writing}
-use Rattle.tdcc_tool.specs.Accepted.{IsBuilt}
+use Rattle.tdcc_tool.specs.declared.output.OutputMode.{OutputMode}
+use Rattle.tdcc_tool.specs.Accepted.{IsTextOf}
 use Rattle.tdcc_tool.specs.Answers.{AnswersOf, AnswersTo, ProgramAnswer}
 use Rattle.tdcc_tool.specs.Messages.{program_line}
 use Rattle.tdcc_tool.specs.TextFaults.{HasFault, misread}
@@ -31,7 +31,7 @@ none_waiting None pending e = cc
 none_waiting (Some bs) [] e = e
 none_waiting (Some bs) (x ∷ pending) e = absurd (cc)
 
-pub ended_source : (s : Settings) (c : Course) (start waiting left : Option (List ℕ)) (pending line : List ℕ)
+pub ended_source : (s : Settings) (c : RunState) (start waiting left : Option (List ℕ)) (pending line : List ℕ)
     → IsOnWay s start waiting c → ReadsLine longest_line waiting (prepend_known pending left) line (Ok line_ends.End) → OnSome start (left ≡ Some [])
 ended_source s c None waiting left pending line pr r = tt
 ended_source s c (Some trace) waiting left pending line pr r =
@@ -56,22 +56,22 @@ module _ (task : Task) where
   refuses_long (Some bytes) new text s o e r es eo ee = inl (record { fault = TextTooLong; has = misread TextTooLong (λ same. cc) r.0; is = es; nothing = eo; told = ee })
 
   -- what is answered of the text's program, whatever the bytes, is answered to them
-  pub answers_text : (p : CoreProgram) (start new : Option (List ℕ)) (text : List ℕ) (end : TextEnd) (s : Status) (o e : List ℕ) → ReadsText start new text (Ok end) → IsBuilt text p
+  pub answers_text : (p : CoreProgram) (start new : Option (List ℕ)) (text : List ℕ) (end : TextEnd) (s : Status) (o e : List ℕ) → ReadsText start new text (Ok end) → IsTextOf text p
       → ((bytes : List ℕ) → AnswersOf task p bytes s o e) → Answered start s o e
   answers_text p None new text end s o e r built h = tt
-  answers_text p (Some bytes) new text end s o e r built h = inr (p, subst (λ (t : List ℕ). IsBuilt t p) r.is_text built, h bytes)
+  answers_text p (Some bytes) new text end s o e r built h = inr (p, subst (λ (t : List ℕ). IsTextOf t p) r.is_text built, h bytes)
 
 -- the answer to the trace of a text's program is the answer to the bytes
-answers_trace : (writing : Writing) (limits : Limits) (p : CoreProgram) (start new : Option (List ℕ)) (text : List ℕ) (end : TextEnd) (s : Status) (o e : List ℕ) → ReadsText start new text (Ok end) → IsBuilt text p
-    → IfSome new (λ trace. ProgramAnswer p writing limits (lines_of trace) s o e) → Answered (tasks.Run writing limits) start s o e
-answers_trace writing limits p None new text end s o e r built h = tt
-answers_trace writing limits p (Some bytes) new text end s o e r built h =
-    inr (p, subst (λ (t : List ℕ). IsBuilt t p) r.is_text built, subst (λ (n : Option (List ℕ)). IfSome n (λ trace. ProgramAnswer p writing limits (lines_of trace) s o e)) r.trace h)
+answers_trace : (mode : OutputMode) (limits : Limits) (p : CoreProgram) (start new : Option (List ℕ)) (text : List ℕ) (end : TextEnd) (s : Status) (o e : List ℕ) → ReadsText start new text (Ok end) → IsTextOf text p
+    → IfSome new (λ trace. ProgramAnswer p mode limits (lines_of trace) s o e) → Answered (tasks.Run mode limits) start s o e
+answers_trace mode limits p None new text end s o e r built h = tt
+answers_trace mode limits p (Some bytes) new text end s o e r built h =
+    inr (p, subst (λ (t : List ℕ). IsTextOf t p) r.is_text built, subst (λ (n : Option (List ℕ)). IfSome n (λ trace. ProgramAnswer p mode limits (lines_of trace) s o e)) r.trace h)
 
-pub answers_run : {E : Type 0} (writing : Writing) (limits : Limits) (p : CoreProgram) (start new : Option (List ℕ)) (text : List ℕ) (end : TextEnd) (r : Result Answer E) → ReadsText start new text (Ok end) → IsBuilt text p
-    → IfOk r (λ a. IfSome new (λ trace. ProgramAnswer p writing limits (lines_of trace) a.status a.out.items a.err.items)) → IfOk r (λ a. Answered (tasks.Run writing limits) start a.status a.out.items a.err.items)
-answers_run writing limits p start new text end (Err x) r built h = tt
-answers_run writing limits p start new text end (Ok a) r built h = answers_trace writing limits p start new text end a.status a.out.items a.err.items r built h
+pub answers_run : {E : Type 0} (mode : OutputMode) (limits : Limits) (p : CoreProgram) (start new : Option (List ℕ)) (text : List ℕ) (end : TextEnd) (r : Result Answer E) → ReadsText start new text (Ok end) → IsTextOf text p
+    → IfOk r (λ a. IfSome new (λ trace. ProgramAnswer p mode limits (lines_of trace) a.status a.out.items a.err.items)) → IfOk r (λ a. Answered (tasks.Run mode limits) start a.status a.out.items a.err.items)
+answers_run mode limits p start new text end (Err x) r built h = tt
+answers_run mode limits p start new text end (Ok a) r built h = answers_trace mode limits p start new text end a.status a.out.items a.err.items r built h
 
 -- the source is at its end where the trace is
 pub at_end : (start new left : Option (List ℕ)) (text : List ℕ) (end : TextEnd) → ReadsText start new text (Ok end) → OnSome new (left ≡ Some []) → OnSome start (left ≡ Some [])

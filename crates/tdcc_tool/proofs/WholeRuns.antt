@@ -18,15 +18,15 @@ use Rattle.command_words.specs.declared.command.Command.{Command}
 use Rattle.command_words.specs.declared.command.Command.TheVariants as commands
 use Rattle.command_words.specs.declared.settings.Limits.{Limits}
 use Rattle.tdcc_tool.specs.declared.task.Task.TheVariants as tasks
-use Rattle.tdcc_tool.specs.declared.writing.Writing.{Writing}
-use Rattle.tdcc_tool.specs.declared.writing.Writing.TheVariants.{Stores, Reports}
-use Rattle.tdcc_tool.specs.Accepted.{IsBuilt}
-use Rattle.tdcc_tool.specs.declared.end.End.{End}
-use Rattle.tdcc_tool.specs.declared.end.End.TheVariants as ends
+use Rattle.tdcc_tool.specs.declared.output.OutputMode.{OutputMode}
+use Rattle.tdcc_tool.specs.declared.output.OutputMode.TheVariants.{Stores, Reports}
+use Rattle.tdcc_tool.specs.Accepted.{IsTextOf}
+use Rattle.tdcc_tool.specs.declared.run_end.RunEnd.{RunEnd}
+use Rattle.tdcc_tool.specs.declared.run_end.RunEnd.TheVariants as ends
 use Rattle.trace_text.specs.Inputs.{GivesInput}
 use Rattle.tdcc_tool.specs.RunEnds.{EndsBy, status_of}
-use Rattle.tdcc_tool.specs.Answers.{GiveInputs, KeepsLimits, RunAnswer, AnswersTo, AnswersBy, IsCommand}
-use Rattle.tdcc_tool.specs.Completeness.{CallsRun, RunsThrough, IsRunnable, EndsWhole, IsRoomFor}
+use Rattle.tdcc_tool.specs.Answers.{GiveInputs, KeepsLimits, RunAnswer, AnswersTo, AnswersBy, WordsCall}
+use Rattle.tdcc_tool.specs.Completeness.{CallsRun, RunsThrough, IsRunnable, EndsWhole, FitsInto}
 use Rattle.tdcc_tool.proofs.AcceptedPrograms.{built_program, one_built, built_no_fault}
 use Rattle.tdcc_tool.proofs.OneAnswer.{one_command}
 use Rattle.tdcc_tool.proofs.RunAnswers.{front_goes_on, within as inputs_within, same_front, run-front}
@@ -42,8 +42,8 @@ module _ (p : CoreProgram) where
   given_at (l ∷ lines) (i ∷ ins) (suc n) line all e = let h = given_at lines ins n line all.1 e in let lt = h.0 in (omega arith, h.1, h.2, h.3)
 
   -- such a run ends at the end of the trace
-  ends_whole : (table : List ℕ) → IsWellFormed p → Stratifies p table → (limits : Limits) (lines : List (List ℕ)) (ins outs : List StoreMap) (n : ℕ) (e : End) → GiveInputs p lines ins → IsRun p ins outs → length ins ≤ 65536 → KeepsLimits p limits outs → n ≤ length ins
-      → EndsBy p limits lines (take n outs) e → e ≡ ends.Whole
+  ends_whole : (table : List ℕ) → IsWellFormed p → Stratifies p table → (limits : Limits) (lines : List (List ℕ)) (ins outs : List StoreMap) (n : ℕ) (e : RunEnd) → GiveInputs p lines ins → IsRun p ins outs → length ins ≤ 65536 → KeepsLimits p limits outs → n ≤ length ins
+      → EndsBy p limits lines (take n outs) e → e ≡ ends.Completed
   ends_whole table is strat limits lines ins outs n e all run few within le (inl h) = h.0
   ends_whole table is strat limits lines ins outs n e all run few within le (inr (line, at, ends)) =
       let whole = run.whole in
@@ -60,11 +60,11 @@ module _ (bytes : List ℕ) where
   lines = lines_of (trace_of bytes)
 
   -- a run that may go to its end ends with the status of one that did
-  whole_run : (writing : Writing) (p : CoreProgram) (s : Status) (o e : List ℕ) (table : List ℕ) → IsBuilt (program_text_of bytes) p → Stratifies p table → (limits : Limits) (r : RunsThrough limits bytes) → RunAnswer p writing limits lines s o e → s ≡ statuses.Ok
-  whole_run writing p s o e table built fits limits r answer =
+  whole_run : (mode : OutputMode) (p : CoreProgram) (s : Status) (o e : List ℕ) (table : List ℕ) → IsTextOf (program_text_of bytes) p → Stratifies p table → (limits : Limits) (r : RunsThrough limits bytes) → RunAnswer p mode limits lines s o e → s ≡ statuses.Ok
+  whole_run mode p s o e table built fits limits r answer =
       answer.status_is ∙ ap status_of (go r.program r.outputs (one_built (program_text_of bytes) r.program p r.accepted.built built) r.given r.run r.within)
     where
-      go : (q : CoreProgram) (outputs : List StoreMap) → q ≡ p → GiveInputs q lines r.inputs → IsRun q r.inputs outputs → KeepsLimits q limits outputs → answer.end ≡ ends.Whole
+      go : (q : CoreProgram) (outputs : List StoreMap) → q ≡ p → GiveInputs q lines r.inputs → IsRun q r.inputs outputs → KeepsLimits q limits outputs → answer.end ≡ ends.Completed
       go q outputs same given run within =
           let is = built_program (program_text_of bytes) p built in
           let given' = subst (λ (x : CoreProgram). GiveInputs x lines r.inputs) same given in
@@ -77,13 +77,13 @@ module _ (bytes : List ℕ) where
           (subst (λ (xs : List StoreMap). IsRun p xs (take (length answer.ins) outputs)) (sym front) (run-front p r.inputs outputs (length answer.ins) le run')) in
           ends_whole p table is fits limits lines r.inputs outputs (length answer.ins) answer.end given' run' r.few within' le (subst (λ (z : List StoreMap). EndsBy p limits lines z answer.end) outs answer.ends)
 
-  pub whole_status : (writing : Writing) (limits : Limits) → RunsThrough limits bytes → (s : Status) (o e : List ℕ) → AnswersTo (tasks.Run writing limits) bytes s o e → s ≡ statuses.Ok
-  whole_status writing limits r s o e (inl x) = absurd (built_no_fault (program_text_of bytes) r.program x.fault r.accepted.built x.has)
-  whole_status writing limits r s o e (inr (p, built, inl x)) =
+  pub whole_status : (mode : OutputMode) (limits : Limits) → RunsThrough limits bytes → (s : Status) (o e : List ℕ) → AnswersTo (tasks.Run mode limits) bytes s o e → s ≡ statuses.Ok
+  whole_status mode limits r s o e (inl x) = absurd (built_no_fault (program_text_of bytes) r.program x.fault r.accepted.built x.has)
+  whole_status mode limits r s o e (inr (p, built, inl x)) =
       absurd (x.case.none r.accepted.table (subst (λ (q : CoreProgram). Stratifies q r.accepted.table) (one_built (program_text_of bytes) r.program p r.accepted.built built) r.accepted.stratified))
-  whole_status writing limits r s o e (inr (p, built, inr (table, fits, answer))) = whole_run writing p s o e table built fits limits r answer
+  whole_status mode limits r s o e (inr (p, built, inr (table, fits, answer))) = whole_run mode p s o e table built fits limits r answer
 
-  called_whole : (words : List (String Global)) (command : Command) (s : Status) (o e : List ℕ) → IsCommand command words → AnswersBy command bytes s o e → IsRunnable words bytes → s ≡ statuses.Ok
+  called_whole : (words : List (String Global)) (command : Command) (s : Status) (o e : List ℕ) → WordsCall command words → AnswersBy command bytes s o e → IsRunnable words bytes → s ≡ statuses.Ok
   called_whole words command s o e is h r = go r.calls
     where
       go : CallsRun r.limits words → s ≡ statuses.Ok
@@ -91,12 +91,12 @@ module _ (bytes : List ℕ) where
       go (inr report) = whole_status Reports r.limits r.through s o e (subst (λ (c : Command). AnswersBy c bytes s o e) (one_command words command (commands.Report r.limits) is report) h)
 
 -- an answer to such an input is its end
-pub runs_whole : (words : List (String Global)) (command : Command) (left : Option (List ℕ)) (s : Status) (o e : List ℕ) (source_failed sink_failed : Type 0) → IsCommand command words → IfSome left (λ bytes. AnswersBy command bytes s o e)
+pub runs_whole : (words : List (String Global)) (command : Command) (left : Option (List ℕ)) (s : Status) (o e : List ℕ) (source_failed sink_failed : Type 0) → WordsCall command words → IfSome left (λ bytes. AnswersBy command bytes s o e)
     → IfSome left (λ bytes. IsRunnable words bytes → EndsWhole s source_failed sink_failed)
 runs_whole words command None s o e f g is h = tt
 runs_whole words command (Some bytes) s o e f g is h = λ r. subst (λ (x : Status). EndsWhole x f g) (sym (called_whole bytes words command s o e is h r)) tt
 
 -- a sink that is sure of room for the bytes does not refuse them
-pub no_room : {T E : Type 0} (before now : Option ℕ) (bytes o : List ℕ) (r : Result T E) → (IsOk r → ⊥) → TakesAllWithin before now (length bytes) r → bytes ≡ o → IsRoomFor before o → ⊥
+pub no_room : {T E : Type 0} (before now : Option ℕ) (bytes o : List ℕ) (r : Result T E) → (IsOk r → ⊥) → TakesAllWithin before now (length bytes) r → bytes ≡ o → FitsInto o before → ⊥
 no_room None now bytes o r bad taken same room = room
 no_room (Some n) now bytes o r bad taken same room = bad (taken (subst (λ (x : List ℕ). length x ≤ n) (sym same) room)).0

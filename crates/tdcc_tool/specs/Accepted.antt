@@ -8,19 +8,19 @@ use Rattle.tdcc_reader.specs.Texts.{ReadsAs}
 use Rattle.expansion_laws.specs.Expansions.{IsExpansion}
 
 -- the program is that of the surface, and is within the limits
-pub record IsCoreOf (s : SurfaceProgram) (p : CoreProgram) : Type 0 where
+pub record IsExpandedTo (s : SurfaceProgram) (p : CoreProgram) : Type 0 where
   pub expansion : IsExpansion s p
   pub few_nodes : length p.nodes ≤ 4096
   pub few_cells : length p.cells ≤ 1024
 
 -- the text is this program's, which is within the limits
-pub record IsBuilt (text : List ℕ) (p : CoreProgram) : Type 0 where
+pub record IsTextOf (text : List ℕ) (p : CoreProgram) : Type 0 where
   pub surface : SurfaceProgram
   pub reads : ReadsAs Program text surface
-  pub core : IsCoreOf surface p
+  pub core : IsExpandedTo surface p
 
 -- and some table of numbers stratifies it
-pub record Accepts (text : List ℕ) (p : CoreProgram) : Type 0 where
-  pub built : IsBuilt text p
+pub record IsAccepted (text : List ℕ) (p : CoreProgram) : Type 0 where
+  pub built : IsTextOf text p
   pub table : List ℕ
   pub stratified : Stratifies p table

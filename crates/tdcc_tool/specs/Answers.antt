@@ -15,16 +15,16 @@ use Rattle.agent_core.specs.Strata.{Stratifies}
 use Rattle.core_text.specs.CoreTexts.{core_text}
 use Rattle.tdcc_reader.specs.declared.fault.ReadFault.{ReadFault}
 use Rattle.trace_text.specs.Inputs.{GivesInput}
-use Rattle.tdcc_tool.specs.declared.end.End.{End}
+use Rattle.tdcc_tool.specs.declared.run_end.RunEnd.{RunEnd}
 use Rattle.tdcc_tool.specs.declared.task.Task.{Task}
 use Rattle.tdcc_tool.specs.declared.task.Task.TheVariants as tasks
-use Rattle.tdcc_tool.specs.declared.writing.Writing.{Writing}
+use Rattle.tdcc_tool.specs.declared.output.OutputMode.{OutputMode}
 use Rattle.tdcc_tool.specs.Messages.{usage_line, program_line, strata_line}
-use Rattle.tdcc_tool.specs.Accepted.{IsBuilt}
+use Rattle.tdcc_tool.specs.Accepted.{IsTextOf}
 use Rattle.tdcc_tool.specs.TextFaults.{HasFault}
 use Rattle.tdcc_tool.specs.RefusedCases.{IsRefusedCase}
-use Rattle.tdcc_tool.specs.Writings.{spent, written}
-use Rattle.tdcc_tool.specs.RunEnds.{leaf_count, EndsBy, status_of, end_line}
+use Rattle.tdcc_tool.specs.RunTexts.{spent, written}
+use Rattle.tdcc_tool.specs.RunEnds.{leaf_count_after, EndsBy, status_of, end_line}
 use Rattle.tdcc_tool.specs.Checks.{CheckAnswer}
 use Rattle.tdcc_tool.specs.Tasks.{task_of, input_of}
 
@@ -37,19 +37,19 @@ GiveInputs p (line ∷ lines) [] = ⊥
 
 -- the instants that have these outputs keep the limits: none has too many leaves, and not too many agents ran in all of them
 pub record KeepsLimits (p : CoreProgram) (limits : Limits) (outs : List StoreMap) : Type 0 where
-  pub net : (n : ℕ) → n < length outs → leaf_count p (take n outs) ≤ limits.net
+  pub net : (n : ℕ) → n < length outs → leaf_count_after p (take n outs) ≤ limits.net
   pub fuel : spent p outs ≤ limits.fuel
 
 -- The answer of a program to the lines of a trace: what is written of the run on the inputs of the lines, up to the end of the trace, to the first line that stops it, or to the first instant that goes past a limit.
-pub record RunAnswer (p : CoreProgram) (writing : Writing) (limits : Limits) (lines : List (List ℕ)) (status : Status) (out err : List ℕ) : Type 0 where
+pub record RunAnswer (p : CoreProgram) (mode : OutputMode) (limits : Limits) (lines : List (List ℕ)) (status : Status) (out err : List ℕ) : Type 0 where
   pub ins : List StoreMap
   pub outs : List StoreMap
   pub few : length ins ≤ 65536
   pub given : GiveInputs p (take (length ins) lines) ins
   pub run : IsRun p ins outs
   pub within : KeepsLimits p limits outs
-  pub told_out : out ≡ written writing p outs
-  pub end : End
+  pub told_out : out ≡ written mode p outs
+  pub end : RunEnd
   pub ends : EndsBy p limits lines outs end
   pub status_is : status ≡ status_of end
   pub told_err : err ≡ end_line (length outs) end
@@ -73,9 +73,9 @@ pub record CaseAnswer (p : CoreProgram) (status : Status) (out err : List ℕ) :
   pub line : err ≡ strata_line p guard told node
 
 -- the answer of a program to the lines of a trace: it is not stratified, or runs
-abbrev pub ProgramAnswer : CoreProgram → Writing → Limits → List (List ℕ) → Status → List ℕ → List ℕ → Type 0
-ProgramAnswer p writing limits lines status out err =
-    CaseAnswer p status out err ⊎ ((table : List ℕ) × Stratifies p table × RunAnswer p writing limits lines status out err)
+abbrev pub ProgramAnswer : CoreProgram → OutputMode → Limits → List (List ℕ) → Status → List ℕ → List ℕ → Type 0
+ProgramAnswer p mode limits lines status out err =
+    CaseAnswer p status out err ⊎ ((table : List ℕ) × Stratifies p table × RunAnswer p mode limits lines status out err)
 
 -- the answer that is the core text of a program
 pub record CoreAnswer (p : CoreProgram) (status : Status) (out err : List ℕ) : Type 0 where
@@ -85,7 +85,7 @@ pub record CoreAnswer (p : CoreProgram) (status : Status) (out err : List ℕ) :
 
 -- what a task answers of a program: a run with the trace behind its text; its core text is written whether it is stratified or not
 abbrev pub AnswersOf : Task → CoreProgram → List ℕ → Status → List ℕ → List ℕ → Type 0
-AnswersOf (tasks.Run writing limits) p bytes status out err = ProgramAnswer p writing limits (lines_of (trace_of bytes)) status out err
+AnswersOf (tasks.Run mode limits) p bytes status out err = ProgramAnswer p mode limits (lines_of (trace_of bytes)) status out err
 AnswersOf tasks.Check p bytes status out err = CaseAnswer p status out err ⊎ CheckAnswer p status out err
 AnswersOf tasks.Core p bytes status out err = CoreAnswer p status out err
 
@@ -93,30 +93,30 @@ AnswersOf tasks.Core p bytes status out err = CoreAnswer p status out err
 abbrev pub AnswersTo : Task → List ℕ → Status → List ℕ → List ℕ → Type 0
 AnswersTo task bytes status out err =
     FaultAnswer (program_text_of bytes) status out err
-    ⊎ ((p : CoreProgram) × IsBuilt (program_text_of bytes) p × AnswersOf task p bytes status out err)
+    ⊎ ((p : CoreProgram) × IsTextOf (program_text_of bytes) p × AnswersOf task p bytes status out err)
 
 -- what a command answers, where these are the bytes of the source
 abbrev pub AnswersBy : Command → List ℕ → Status → List ℕ → List ℕ → Type 0
 AnswersBy command bytes status out err = AnswersTo (task_of command) (input_of command bytes) status out err
 
 -- the words are those of the command
-abbrev pub IsCommand : Command → List (String Global) → Type 0
-IsCommand command words = words_of.IsCommand command (map string_bytes words)
+abbrev pub WordsCall : Command → List (String Global) → Type 0
+WordsCall command words = words_of.IsCommand command (map string_bytes words)
 
 -- the words are those of none of the commands
-abbrev pub IsNoCommand : List (String Global) → Type 0
-IsNoCommand words = words_of.IsNoCommand (map string_bytes words)
+abbrev pub WordsCallNothing : List (String Global) → Type 0
+WordsCallNothing words = words_of.IsNoCommand (map string_bytes words)
 
 -- the answer to words that are none of the tool's
 pub record UsageAnswer (words : List (String Global)) (status : Status) (out err : List ℕ) : Type 0 where
-  pub none : IsNoCommand words
+  pub none : WordsCallNothing words
   pub is : status ≡ statuses.Usage
   pub nothing : out ≡ []
   pub told : err ≡ usage_line
 
 -- the answer to the words and the bytes
 abbrev pub Answers : List (String Global) → List ℕ → Status → List ℕ → List ℕ → Type 0
-Answers words bytes status out err = ((command : Command) × IsCommand command words × AnswersBy command bytes status out err) ⊎ UsageAnswer words status out err
+Answers words bytes status out err = ((command : Command) × WordsCall command words × AnswersBy command bytes status out err) ⊎ UsageAnswer words status out err
 
 -- the words and the bytes have at most one answer
 abbrev pub HaveOneAnswer : List (String Global) → List ℕ → Type 0

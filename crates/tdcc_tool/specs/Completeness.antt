@@ -10,17 +10,17 @@ use Rattle.agent_core.specs.Programs.{CoreProgram}
 use Rattle.agent_core.specs.Outputs.{IsRun}
 use Rattle.command_words.specs.declared.command.Command.TheVariants.{Run, Report}
 use Rattle.command_words.specs.declared.settings.Limits.{Limits}
-use Rattle.tdcc_tool.specs.Accepted.{Accepts}
-use Rattle.tdcc_tool.specs.Answers.{GiveInputs, KeepsLimits, IsCommand}
+use Rattle.tdcc_tool.specs.Accepted.{IsAccepted}
+use Rattle.tdcc_tool.specs.Answers.{GiveInputs, KeepsLimits, WordsCall}
 
 -- the words are those of a run or a report with these limits
 abbrev pub CallsRun : Limits → List (String Global) → Type 0
-CallsRun limits words = IsCommand (Run limits) words ⊎ IsCommand (Report limits) words
+CallsRun limits words = WordsCall (Run limits) words ⊎ WordsCall (Report limits) words
 
 -- the text is a program that runs, each line of the trace, of which there are not too many, gives an input, and the run on these keeps the limits
 pub record RunsThrough (limits : Limits) (bytes : List ℕ) : Type 0 where
   pub program : CoreProgram
-  pub accepted : Accepts (program_text_of bytes) program
+  pub accepted : IsAccepted (program_text_of bytes) program
   pub inputs : List StoreMap
   pub few : length inputs ≤ 65536
   pub given : GiveInputs program (lines_of (trace_of bytes)) inputs
@@ -43,6 +43,6 @@ EndsWhole statuses.Write source_failed sink_failed = sink_failed
 EndsWhole _ source_failed sink_failed = ⊥
 
 -- the room that is sure is enough for the bytes
-abbrev pub IsRoomFor : Option ℕ → List ℕ → Type 0
-IsRoomFor None bytes = ⊥
-IsRoomFor (Some room) bytes = length bytes ≤ room
+abbrev pub FitsInto : List ℕ → Option ℕ → Type 0
+FitsInto bytes None = ⊥
+FitsInto bytes (Some room) = length bytes ≤ room

@@ -19,21 +19,21 @@ pub record WholeLines (given lines : List ℕ) : Type 0 where
   pub whole : EndsLine lines
 
 -- After a read fault out holds a prefix of the answer to the whole lines that the source gave.
-abbrev pub HoldsTaken : List (String Global) → List ℕ → Option (List ℕ) → Option (List ℕ) → Type 0
-HoldsTaken words given before now =
+abbrev pub HoldsPrefixOfAnswer : List (String Global) → List ℕ → Option (List ℕ) → Option (List ℕ) → Type 0
+HoldsPrefixOfAnswer words given before now =
     (lines : List ℕ) (s : Status) (o e : List ℕ) → WholeLines given lines → Answers words lines s o e → AppendsPrefix before now o
 
 -- What out holds of the answer to all bytes, of which the source gave these: after a write fault a proper prefix, if memory ran out a prefix.
-abbrev pub CutsOut : Status → List (String Global) → List ℕ → List ℕ → Option (List ℕ) → Option (List ℕ) → Type 0
-CutsOut statuses.Read words bytes given before now = HoldsTaken words given before now
-CutsOut statuses.Write words bytes given before now = (s : Status) (o e : List ℕ) → Answers words bytes s o e → AppendsProperPrefix before now o
-CutsOut statuses.Memory words bytes given before now = (s : Status) (o e : List ℕ) → Answers words bytes s o e → AppendsPrefix before now o
-CutsOut _ words bytes given before now = Unit {0}
+abbrev pub LeavesAfterFault : Status → List (String Global) → List ℕ → List ℕ → Option (List ℕ) → Option (List ℕ) → Type 0
+LeavesAfterFault statuses.Read words bytes given before now = HoldsPrefixOfAnswer words given before now
+LeavesAfterFault statuses.Write words bytes given before now = (s : Status) (o e : List ℕ) → Answers words bytes s o e → AppendsProperPrefix before now o
+LeavesAfterFault statuses.Memory words bytes given before now = (s : Status) (o e : List ℕ) → Answers words bytes s o e → AppendsPrefix before now o
+LeavesAfterFault _ words bytes given before now = Unit {0}
 
 -- the line that a status has by itself, whatever the bytes
-abbrev pub own_line : Status → Option (List ℕ)
-own_line statuses.Usage = Some usage_line
-own_line statuses.Read = Some read_line
-own_line statuses.Write = Some write_line
-own_line statuses.Memory = Some memory_line
-own_line _ = None
+abbrev pub fixed_line : Status → Option (List ℕ)
+fixed_line statuses.Usage = Some usage_line
+fixed_line statuses.Read = Some read_line
+fixed_line statuses.Write = Some write_line
+fixed_line statuses.Memory = Some memory_line
+fixed_line _ = None

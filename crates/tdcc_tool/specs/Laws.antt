@@ -8,16 +8,20 @@ use Rattle.agent_core.specs.Programs.{CoreProgram}
 use Rattle.agent_core.specs.Stores.{IsStore}
 use Rattle.agent_core.specs.Outputs.{IsOutput, IsRun}
 use Rattle.agent_laws.specs.Laws.{ExactlyOne}
-use Rattle.tdcc_tool.specs.Accepted.{Accepts}
+use Rattle.tdcc_tool.specs.Accepted.{IsAccepted}
 use Rattle.tdcc_tool.specs.Answers.{Answers}
 
 -- the program of an accepted text has exactly one output, after any closed stores, on each of its stores
 abbrev pub AcceptedHaveOneOutput : List ℕ → Type 0
-AcceptedHaveOneOutput text = (p : CoreProgram) → Accepts text p → (closed : List StoreMap) (input : StoreMap) → IsStore p input → ExactlyOne (IsOutput p closed input)
+AcceptedHaveOneOutput text = (p : CoreProgram) → IsAccepted text p → (closed : List StoreMap) (input : StoreMap) → IsStore p input → ExactlyOne (IsOutput p closed input)
 
 -- and exactly one run on inputs
 abbrev pub AcceptedHaveOneRun : List ℕ → Type 0
-AcceptedHaveOneRun text = (p : CoreProgram) → Accepts text p → (ins : List StoreMap) → All (IsStore p) ins → ExactlyOne (IsRun p ins)
+AcceptedHaveOneRun text = (p : CoreProgram) → IsAccepted text p → (ins : List StoreMap) → All (IsStore p) ins → ExactlyOne (IsRun p ins)
+
+-- the words and the bytes have an answer
+abbrev pub HaveAnswer : List (String Global) → List ℕ → Type 0
+HaveAnswer words bytes = (s : Status) × (o : List ℕ) × (e : List ℕ) × Answers words bytes s o e
 
 -- the words differ in the number of workers alone
 pub record DifferInWorkers (words others : List (String Global)) : Type 0 where

@@ -2,13 +2,15 @@ pub mod Messages
 pub mod Accepted
 pub mod TextFaults
 pub mod RefusedCases
-pub mod Writings
+pub mod RunTexts
 pub mod RunEnds
 pub mod Checks
 pub mod Tasks
 pub mod Answers
+pub mod KnownInputs
 pub mod Cuts
 pub mod Completeness
+pub mod Contract
 pub mod Steps
-pub mod Ends
+pub mod Statuses
 pub mod Laws

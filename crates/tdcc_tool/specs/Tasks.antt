@@ -6,7 +6,7 @@ use Rattle.command_words.specs.declared.settings.Limits.{Limits}
 use Rattle.generated_laws.specs.GeneratedInputs.{input_bytes}
 use Rattle.tdcc_tool.specs.declared.task.Task.{Task}
 use Rattle.tdcc_tool.specs.declared.task.Task.TheVariants as tasks
-use Rattle.tdcc_tool.specs.declared.writing.Writing.TheVariants.{Stores, Reports, Summary}
+use Rattle.tdcc_tool.specs.declared.output.OutputMode.TheVariants.{Stores, Reports, Summary}
 
 -- the limits of a generated run: those that are usual
 abbrev pub usual_limits : Limits
@@ -37,10 +37,10 @@ ReadsTrace _ = ⊥
 
 -- a run may have 65,536 leaves in an instant at most
 abbrev pub HasNetLimit : Task → Type 0
-HasNetLimit (tasks.Run writing limits) = limits.net ≤ 65536
+HasNetLimit (tasks.Run mode limits) = limits.net ≤ 65536
 HasNetLimit _ = Unit {0}
 
 -- the task is to run the program
-abbrev pub IsRun : Task → Type 0
-IsRun (tasks.Run writing limits) = Unit {0}
-IsRun _ = ⊥
+abbrev pub RunsProgram : Task → Type 0
+RunsProgram (tasks.Run mode limits) = Unit {0}
+RunsProgram _ = ⊥

@@ -5,12 +5,12 @@ ghost use Rattle.tdcc_reader.specs.declared.fault.ReadFault.TheVariants.{Memory 
 ghost use Rattle.tdcc_tool.specs.Answers.{CoreAnswer};
 ghost use Rattle.tdcc_tool.specs.Messages.{program_line as program_line_of, strata_line as strata_line_of};
 ghost use Rattle.tdcc_tool.specs.RunEnds.{end_line as end_line_of, status_of};
-ghost use Rattle.tdcc_tool.specs.Steps.{Follows, Says};
-ghost use Rattle.tdcc_tool.specs.Writings.{written};
+ghost use Rattle.tdcc_tool.specs.Steps.{IsStateOf, IsNotOutOfMemory};
+ghost use Rattle.tdcc_tool.specs.RunTexts.{written};
 
-use crate::course::Course;
-use crate::end::End;
 use crate::messages::{end_line, program_line, strata_line};
+use crate::run_end::RunEnd;
+use crate::run_state::RunState;
 use agent_core::Program;
 use core_text::print_core;
 use std::alloc::{AllocError, AllocFailed, Global};
@@ -103,15 +103,16 @@ pub fn core_answer(alloc: Global, program: &Program) -> Result<Answer, Memory>
     })
 }
 
-/// The answer of the run that took this course, where it ends so.
-pub fn finish(alloc: Global, course: Course, end: End) -> Result<Answer, Memory>
-    requires { Says end }
+/// The answer of the run that took this state, where it ends so.
+pub fn finish(alloc: Global, state: RunState, end: RunEnd) -> Result<Answer, Memory>
+    requires { IsNotOutOfMemory end }
     ensures status { IfOk result (λ a. a.status ≡ status_of end) }
-    ensures out { IfOk result (λ a. (full : List StoreMap) → Follows course full → a.out.items ≡ written course.writing course.book.program full) }
-    ensures err { IfOk result (λ a. a.err.items ≡ end_line_of (length course.book.ins) end) }
+    ensures out { IfOk result (λ a. (full : List StoreMap) → IsStateOf state full
+        → a.out.items ≡ written state.mode state.book.program full) }
+    ensures err { IfOk result (λ a. a.err.items ≡ end_line_of (length state.book.ins) end) }
 {
-    let err = end_line(alloc, course.book.instants(), end)?;
-    let out = course.written(alloc)?;
+    let err = end_line(alloc, state.book.instants(), end)?;
+    let out = state.written(alloc)?;
     Ok(Answer {
         status: end.status(),
         out,

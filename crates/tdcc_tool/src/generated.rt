@@ -2,11 +2,11 @@
 ghost use Rattle.std.specs.Prelude.{◌≡◌, IfOk, IsErrOf};
 ghost use Rattle.generated_laws.specs.GeneratedInputs.{input_bytes};
 ghost use Rattle.tdcc_tool.specs.Answers.{AnswersTo};
-ghost use Rattle.tdcc_tool.specs.Ends.{IsCommandEnd};
+ghost use Rattle.tdcc_tool.specs.Statuses.{IsCommandEnd};
 ghost use Rattle.tdcc_tool.specs.Tasks.{HasNetLimit};
 
 use crate::answer::{Answer, Stop};
-use crate::answering::answer;
+use crate::dispatch::answer;
 use crate::task::Task;
 use std::alloc::Global;
 use tdcc_base::MemSource;

@@ -32,7 +32,8 @@ pub fn output_of(
     ensures net { IfOk result (λ found. IsNetOf book.now.program book.now.levels (listed_roots book.now.roots) (length book.now.ins) found.0) }
     ensures words { IfOk result (λ found. AreWords found.0.cells found.1) }
     ensures output { IfOk result (λ found. IsNetOutput found.0 input.now (store_in found.0.cells found.1)) }
-    ensures run { IfOk result (λ found. (full : List StoreMap) → KeepsRun book.now full → program.IsOutput book.now.program full input.now (store_in found.0.cells found.1)) }
+    ensures run { IfOk result (λ found. (full : List StoreMap) → KeepsRun book.now full
+        → program.IsOutput book.now.program full input.now (store_in found.0.cells found.1)) }
     ensures small { IfOk result (λ _. count_now book.now ≤ limit) }
     ensures counted { (leaves : ℕ) → result ≡ Err (NetFault.NetFull leaves) → leaves ≡ count_now book.now }
     ensures full { (leaves : ℕ) → result ≡ Err (NetFault.NetFull leaves) → limit < leaves }

@@ -1,15 +1,16 @@
 ghost use Rattle.std.specs.Prelude.{List, ℕ};
 ghost use Rattle.tdcc_tool.specs.Answers.{HaveOneAnswer};
-ghost use Rattle.tdcc_tool.specs.Laws.{AcceptedHaveOneOutput, AcceptedHaveOneRun, DifferInWorkers, HaveSameAnswers};
+ghost use Rattle.tdcc_tool.specs.Laws.{AcceptedHaveOneOutput, AcceptedHaveOneRun, DifferInWorkers, HaveAnswer, HaveSameAnswers};
 
-use command_words::workers_law as same_command_law;
+use command_words::{command_of, workers_law as same_command_law};
 
-/// The words and the bytes of the source have at most one answer, so that the answer that `tdcc`
+/// The words and the bytes of the source have exactly one answer, so that the answer that `tdcc`
 /// gives is the only one.
 pub fn answer_law(words: &[String])
-    ensures { (bytes : List ℕ) → HaveOneAnswer words.now bytes }
+    ensures some { (bytes : List ℕ) → HaveAnswer words.now bytes }
+    ensures one { (bytes : List ℕ) → HaveOneAnswer words.now bytes }
 {
-    let _ = words.len();
+    let _ = command_of(words);
 }
 
 /// The number of workers changes no answer.

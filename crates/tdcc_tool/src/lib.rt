@@ -2,24 +2,23 @@
 #![tactic(auto)]
 
 mod answer;
-mod answering;
-mod checking;
+mod check;
 mod core_reading;
-mod course;
-mod end;
+mod dispatch;
 mod generated;
 mod instant;
 mod laws;
 mod messages;
-mod reading;
-mod run;
-mod running;
+mod output;
+mod program_text;
+mod run_end;
+mod run_state;
 mod summary;
 mod task;
 #[cfg(test)]
 mod tests;
 mod top;
-mod writing;
+mod trace;
 
 pub use core_reading::core_law;
 pub use laws::{answer_law, output_law, workers_law};

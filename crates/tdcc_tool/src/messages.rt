@@ -4,9 +4,9 @@ ghost use Rattle.tdcc_reader.specs.declared.fault.ReadFault.TheVariants.{Memory 
 ghost use Rattle.trace_text.specs.declared.fault.LineFault.TheVariants.{Memory as NoLine};
 ghost use Rattle.tdcc_tool.specs.Messages as messages;
 ghost use Rattle.tdcc_tool.specs.RunEnds as ends;
-ghost use Rattle.tdcc_tool.specs.Steps.{Says};
+ghost use Rattle.tdcc_tool.specs.Steps.{IsNotOutOfMemory};
 
-use crate::end::End;
+use crate::run_end::RunEnd;
 use agent_core::Program;
 use std::alloc::Global;
 use tdcc_reader::ReadFault;
@@ -104,19 +104,23 @@ fn instant_line(alloc: Global, instant: u32, reason: &str) -> Result<Vec<u8>, Me
 }
 
 /// The line for err where a run ends so at this instant.
-pub fn end_line(alloc: Global, instant: u32, end: End) -> Result<Vec<u8>, Memory>
-    requires { Says end }
+pub fn end_line(alloc: Global, instant: u32, end: RunEnd) -> Result<Vec<u8>, Memory>
+    requires { IsNotOutOfMemory end }
     ensures { IfOk result (λ line. line.items ≡ ends.end_line instant end) }
 {
     match end {
-        End::Whole => Ok(Vec::new(alloc)),
-        End::Line { fault } => instant_line(alloc, instant, fault_text(alloc, fault)?.as_str()),
-        End::Many => instant_line(alloc, instant, "over 65536 instants"),
-        End::Net { leaves } => {
+        RunEnd::Completed => Ok(Vec::new(alloc)),
+        RunEnd::BadLine { fault } => instant_line(
+            alloc,
+            instant,
+            fault_text(alloc, fault)?.as_str(),
+        ),
+        RunEnd::TooManyLines => instant_line(alloc, instant, "over 65536 instants"),
+        RunEnd::NetFull { leaves } => {
             let line = format!(in alloc; "tdcc: net: instant {instant}: {leaves} leaves\n")?;
             Ok(line.as_bytes().to_vec(alloc)?)
         }
-        End::Fuel { agents } => {
+        RunEnd::FuelSpent { agents } => {
             let line = format!(in alloc; "tdcc: fuel: instant {instant}: {agents} agents run\n")?;
             Ok(line.as_bytes().to_vec(alloc)?)
         }

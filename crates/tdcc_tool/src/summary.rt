@@ -3,10 +3,10 @@ ghost use Rattle.std.specs.Prelude.{◌≡◌, ◌≤◌, ◌∷◌, [], ◌++�
 ghost use Rattle.std.specs.List.{range_with_len, sum_by};
 ghost use Rattle.token_system.specs.Stores.{StoreMap};
 ghost use Rattle.run_book.specs.Books.{KeepsRun};
-ghost use Rattle.tdcc_tool.specs.Writings as writings;
-ghost use Rattle.tdcc_tool.specs.Writings.{is_told, summary_line, told_cells};
+ghost use Rattle.tdcc_tool.specs.RunTexts as texts;
+ghost use Rattle.tdcc_tool.specs.RunTexts.{is_told, summary_line, told_cells};
 
-use crate::writing::write_count;
+use crate::output::write_count;
 use run_book::Book;
 use std::alloc::Global;
 use token_system::{CellName, Memory, Store};
@@ -40,7 +40,8 @@ fn told_in_all(declared: u32, stores: &[Store]) -> u64
 
 /// The summary of the run that the book keeps, in which so many agents ran.
 pub fn summary(alloc: Global, book: &Book, spent: u64) -> Result<Vec<u8>, Memory>
-    ensures { IfOk result (λ line. (full : List StoreMap) → KeepsRun book.now full → spent ≡ writings.spent book.now.program full
+    ensures { IfOk result (λ line. (full : List StoreMap) → KeepsRun book.now full
+        → spent ≡ texts.spent book.now.program full
         → line.items ≡ summary_line book.now.program full ++ 10 ∷ []) }
 {
     let outs = book.outs();

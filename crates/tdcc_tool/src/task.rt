@@ -2,7 +2,7 @@
 ghost use Rattle.std.specs.Prelude.{◌≡◌};
 ghost use Rattle.tdcc_tool.specs.Tasks as tasks;
 
-use crate::writing::Writing;
+use crate::output::OutputMode;
 use command_words::{Command, Limits};
 
 /// The limits of a generated run.
@@ -15,7 +15,7 @@ const USUAL_LIMITS: Limits = Limits {
 #[derive(Clone, Copy, Debug, PartialEq, Eq)]
 pub enum Task {
     /// Run the program on the trace within the limits, and write this.
-    Run(Writing, Limits),
+    Run(OutputMode, Limits),
     /// Write how large the program is, and the stratum of each cell.
     Check,
     /// Write the core text of the program.
@@ -27,10 +27,10 @@ pub fn task_of(command: Command) -> Task
     ensures { result ≡ tasks.task_of command }
 {
     match command {
-        Command::Run(limits) => Task::Run(Writing::Stores, limits),
-        Command::Report(limits) => Task::Run(Writing::Reports, limits),
+        Command::Run(limits) => Task::Run(OutputMode::Stores, limits),
+        Command::Report(limits) => Task::Run(OutputMode::Reports, limits),
         Command::Check => Task::Check,
         Command::Core => Task::Core,
-        Command::Generate(_) => Task::Run(Writing::Summary, USUAL_LIMITS),
+        Command::Generate(_) => Task::Run(OutputMode::Summary, USUAL_LIMITS),
     }
 }

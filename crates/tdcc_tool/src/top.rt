@@ -3,14 +3,15 @@ ghost use Rattle.std.specs.Io.KnownBytes.{Appends, Consumes};
 ghost use Rattle.tdcc_base.specs.Causes.{Rose};
 ghost use Rattle.tdcc_base.specs.Written.{WritesUntilFault};
 ghost use Rattle.command_words.specs.declared.command.Command.{Command};
-ghost use Rattle.tdcc_tool.specs.Answers.{Answers, IsCommand, IsNoCommand};
-ghost use Rattle.tdcc_tool.specs.Completeness.{IsRunnable, EndsWhole, IsRoomFor};
-ghost use Rattle.tdcc_tool.specs.Cuts.{CutsOut, own_line};
-ghost use Rattle.tdcc_tool.specs.Ends.{IsSettled, IsToolStatus};
+ghost use Rattle.tdcc_tool.specs.Answers.{Answers, WordsCall, WordsCallNothing};
+ghost use Rattle.tdcc_tool.specs.Completeness.{IsRunnable, EndsWhole, FitsInto};
+ghost use Rattle.tdcc_tool.specs.Cuts.{LeavesAfterFault, fixed_line};
+ghost use Rattle.tdcc_tool.specs.Statuses.{IsComplete, IsToolStatus};
+ghost use Rattle.tdcc_tool.specs.KnownInputs.{MayHave};
 ghost use Rattle.tdcc_tool.specs.Tasks.{IsGenerated, ReadsTrace};
 
 use crate::answer::Stop;
-use crate::answering::answer_command;
+use crate::dispatch::answer_command;
 use command_words::command_of;
 use std::alloc::Global;
 use std::thread::Threads;
@@ -39,15 +40,19 @@ pub fn tdcc<R: Threads + Sync, S: Source, K: Sink, E: Sink, G: Gate>(
     gate: &G,
 ) -> Status
     // The defined answer, where nothing cut the call short.
-    ensures answer { IsSettled result → IfSome (S.left source.old) (λ bytes. (o e : List ℕ) ×
-        Answers words.now bytes result o e
+    ensures answer { IsComplete result → (bytes : List ℕ) → MayHave words.now (S.left source.old) bytes → (o e : List ℕ)
+        × Answers words.now bytes result o e
         × Appends (K.written out.old) (K.written out.new) o
-        × WritesUntilFault (E.written err.old) (E.written err.new) (E.faults err.old) (E.faults err.new) e) }
+        × WritesUntilFault (E.written err.old) (E.written err.new) (E.faults err.old) (E.faults err.new) e }
 
     // What a fault, or memory that ran out, leaves.
-    ensures cut_out { (bytes given : List ℕ) → S.left source.old ≡ Some bytes → Consumes (S.left source.old) (S.left source.new) given →
-        CutsOut result words.now bytes given (K.written out.old) (K.written out.new) }
-    ensures own_line { IfSome (own_line result) (λ line. WritesUntilFault (E.written err.old) (E.written err.new) (E.faults err.old) (E.faults err.new) line) }
+    ensures cut_out { (bytes given : List ℕ) → MayHave words.now (S.left source.old) bytes
+        → Consumes (S.left source.old) (S.left source.new) given
+        → LeavesAfterFault result words.now bytes given (K.written out.old) (K.written out.new) }
+    ensures no_trace { (command : Command) → WordsCall command words.now → ¬ ReadsTrace command
+        → result ≡ Status.Read → out.new ≡ out.old }
+    ensures fixed_line { IfSome (fixed_line result) (λ line.
+        WritesUntilFault (E.written err.old) (E.written err.new) (E.faults err.old) (E.faults err.new) line) }
     ensures read { result ≡ Status.Read → Rose (S.faults source.old) (S.faults source.new) }
     ensures write { result ≡ Status.Write → Rose (K.faults out.old) (K.faults out.new) }
 
@@ -56,21 +61,23 @@ pub fn tdcc<R: Threads + Sync, S: Source, K: Sink, E: Sink, G: Gate>(
     ensures whole { IfSome (S.left source.old) (λ bytes. IsRunnable words.now bytes →
         EndsWhole result (Rose (S.faults source.old) (S.faults source.new)) (Rose (K.faults out.old) (K.faults out.new))) }
     ensures steady { IsTrue (S.steady source.old) → result ≡ Status.Read → ⊥ }
-    ensures roomy { (bytes : List ℕ) (s : Status) (o e : List ℕ) → S.left source.old ≡ Some bytes → Answers words.now bytes s o e →
-        IsRoomFor (K.room out.old) o → result ≡ Status.Write → ⊥ }
+    ensures roomy { (bytes : List ℕ) (s : Status) (o e : List ℕ) → MayHave words.now (S.left source.old) bytes
+        → Answers words.now bytes s o e → FitsInto o (K.room out.old) → result ≡ Status.Write → ⊥ }
 
     // A generated run goes to its end, unless memory runs out or `out` fails.
-    ensures generated_whole { (command : Command) → IsCommand command words.now → IsGenerated command →
+    ensures generated_whole { (command : Command) → WordsCall command words.now → IsGenerated command →
         EndsWhole result ⊥ (Rose (K.faults out.old) (K.faults out.new)) }
 
     // Words that are none of the tool's.
-    ensures usage { IsNoCommand words.now ↔ (result ≡ Status.Usage) }
+    ensures usage { WordsCallNothing words.now ↔ (result ≡ Status.Usage) }
     ensures usage_source { result ≡ Status.Usage → source.new ≡ source.old }
     ensures usage_out { result ≡ Status.Usage → out.new ≡ out.old }
 
     // What was read, and which statuses there are.
-    ensures ended { (command : Command) → IsCommand command words.now → ReadsTrace command → result ≡ Status.Ok → OnSome (S.left source.old) (S.left source.new ≡ Some []) }
-    ensures generated { (command : Command) → IsCommand command words.now → IsGenerated command → source.new ≡ source.old }
+    ensures ended { (command : Command) → WordsCall command words.now → ReadsTrace command → result ≡ Status.Ok
+        → OnSome (S.left source.old) (S.left source.new ≡ Some []) }
+    ensures generated { (command : Command) → WordsCall command words.now → IsGenerated command
+        → source.new ≡ source.old }
     ensures statuses { IsToolStatus result }
 {
     let _ = rt;

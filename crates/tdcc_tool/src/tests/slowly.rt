@@ -3,7 +3,7 @@ ghost use Rattle.std.specs.Prelude.{◌≤◌, All, IfOk, length};
 ghost use Rattle.agent_core.specs.Stores.{IsInput};
 
 use super::assert_run;
-use crate::reading::program_of;
+use crate::program_text::program_of;
 use agent_core::Program;
 use denotation_laws::slow_run;
 use std::alloc::Global;

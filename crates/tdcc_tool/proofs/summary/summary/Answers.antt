@@ -7,8 +7,8 @@ use Rattle.std.proofs.lemmas.List.{append-nil}
 use Rattle.token_system.specs.Stores.{StoreMap}
 use Rattle.agent_core.specs.Programs.{CoreProgram}
 use Rattle.trace_text.specs.StoreLines.{store_line}
-use Rattle.tdcc_tool.specs.Writings as writings
-use Rattle.tdcc_tool.specs.Writings.{is_told, told_cells, last_line}
+use Rattle.tdcc_tool.specs.RunTexts as texts
+use Rattle.tdcc_tool.specs.RunTexts.{is_told, told_cells, last_line}
 use Rattle.tdcc_tool.proofs.DeclaredLines.{line_if, no_line, last-declared, same-told_cells}
 use Rattle.tdcc_tool.proofs.summary.summary.Goals as goal
 use Rattle.tdcc_tool.proofs.summary.summary.Goals.{in-Some+in_ok-write_store, in_default}
@@ -28,7 +28,7 @@ returns c = λ full kept spent.
     let two = c.in_ok-write_count-2.ensures ∙ ap (λ (xs : List ℕ). xs ++ codes " ran " ++ decimal c.args.spent) one
     ∙ ap (λ (n : ℕ). [] ++ codes "instants " ++ decimal (length full) ++ codes " ran " ++ decimal n) spent in
     let three = c.in_ok-write_count-3.ensures ∙ ap (λ (xs : List ℕ). xs ++ codes " cells " ++ decimal c.told_in_all-told.result) two
-    ∙ ap (λ (n : ℕ). [] ++ codes "instants " ++ decimal (length full) ++ codes " ran " ++ decimal (writings.spent p full) ++ codes " cells " ++ decimal n) told in
+    ∙ ap (λ (n : ℕ). [] ++ codes "instants " ++ decimal (length full) ++ codes " ran " ++ decimal (texts.spent p full) ++ codes " cells " ++ decimal n) told in
     let base : List ℕ = c.extend_from_slice.new.self.items in
     let four = c.in_ok-extend_from_slice.ensures.items ∙ ap (λ (xs : List ℕ). xs ++ codes " last ") three in
     let text : c.match-last.line.items ≡ base ++ line_if p (option_copied c.last.result) =

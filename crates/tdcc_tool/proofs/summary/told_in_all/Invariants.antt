@@ -1,7 +1,7 @@
 use Rattle.std.proofs.Common.{◌≡◌, ◌≤◌, ◌*◌, take, length}
 use Rattle.std.specs.Prelude.{filter}
 use Rattle.std.specs.List.{range_with_len, sum_by}
-use Rattle.tdcc_tool.specs.Writings.{is_told}
+use Rattle.tdcc_tool.specs.RunTexts.{is_told}
 use Rattle.tdcc_tool.proofs.summary.told_in_all.Given as goal
 
 abbrev pub invariant-loop-store : goal.invariant-loop-store

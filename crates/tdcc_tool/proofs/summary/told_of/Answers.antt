@@ -1,6 +1,6 @@
 use Rattle.std.proofs.Common.{◌≡◌, ◌+◌, ℕ, Bool, cond, sym, ap, ◌∙◌, arith}
 use Rattle.std.specs.Prelude.{is_some}
-use Rattle.tdcc_tool.specs.Writings.{is_told}
+use Rattle.tdcc_tool.specs.RunTexts.{is_told}
 use Rattle.tdcc_tool.proofs.Counting.{filtered-more, filtered-few}
 use Rattle.tdcc_tool.proofs.summary.told_of.Goals as goal
 use Rattle.tdcc_tool.proofs.summary.told_of.Goals.{then-is_some, else-is_some}

@@ -1,0 +1,62 @@
+use Rattle.std.proofs.Common.{List, ℕ, refl, ◌∙◌, subst, arith}
+use Rattle.std.specs.Prelude.{Ok, Err}
+use Rattle.tdcc_base.specs.declared.stops.LineEnd.TheVariants as line_ends
+use Rattle.tdcc_base.specs.declared.stops.ReadStop.TheVariants as stops
+use Rattle.tdcc_base.specs.Lines.{ReadsLine}
+use Rattle.tdcc_base.specs.Waiting.{waiting, line_read}
+use Rattle.tdcc_tool.specs.Steps.{AdvancesRun, StopsRun}
+use Rattle.tdcc_tool.proofs.RunSteps.{progress-start, ended_whole, ended_at, ended_long, goes_on}
+use Rattle.tdcc_tool.proofs.trace.run_trace.Invariants.{settings_of}
+use Rattle.tdcc_tool.proofs.trace.run_trace.Goals as goal
+
+pub lines-init : goal.lines-init
+lines-init g c = record {
+  same = refl;
+  ready = c.requires.ready;
+  limit = c.requires.limit;
+  going_on = c.requires.going_on;
+  later = omega arith;
+  steady = λ h. h;
+  so_far = progress-start (settings_of c.args.start) (waiting g.S.Source.left c.args.lines.now) c.args.start (record { program = refl; mode = refl; limits = refl }) c.requires.ins c.requires.follows;
+}
+
+pub returns-in-Err-TooLong-clause-answer : goal.returns-in-Err-TooLong-clause-answer
+returns-in-Err-TooLong-clause-answer g c =
+    let h = subst (λ (k : ℕ). ReadsLine k (waiting g.S.Source.left c.lines.lines) (waiting g.S.Source.left c.read_line.new.self) (line_read c.read_line.new.self) (Err stops.TooLong))
+    c.lines.invariant.limit ((rw c.in-Err-TooLong.field-0-is at c.in-Err-TooLong.ensures.line) c.lines.invariant.going_on) in
+    let k = c.in_ok-finish-in-Err-TooLong.ensures in
+    ended_long (settings_of c.args.start) (waiting g.S.Source.left c.args.lines.now) (waiting g.S.Source.left c.lines.lines) (waiting g.S.Source.left c.read_line.new.self) (line_read c.read_line.new.self) _ _ c.lines.state _
+    c.lines.invariant.so_far h (record { status_is = k.status; out = k.out; err = k.err })
+
+pub returns-in-Ok-End-clause-answer : goal.returns-in-Ok-End-clause-answer
+returns-in-Ok-End-clause-answer g c =
+    let h = subst (λ (k : ℕ). ReadsLine k (waiting g.S.Source.left c.lines.lines) (waiting g.S.Source.left c.read_line.new.self) (line_read c.read_line.new.self) (Ok line_ends.End))
+    c.lines.invariant.limit ((rw c.in-Ok-End.field-0-is at c.in-Ok-End.ensures.line) c.lines.invariant.going_on) in
+    let k = c.in_ok-finish-in-Ok-End.ensures in
+    ended_whole (settings_of c.args.start) (waiting g.S.Source.left c.args.lines.now) (waiting g.S.Source.left c.lines.lines) (waiting g.S.Source.left c.read_line.new.self) (line_read c.read_line.new.self) _ _ c.lines.state _
+    c.lines.invariant.so_far h (record { status_is = k.status; out = k.out; err = k.err })
+
+pub returns-in-Some-clause-answer : goal.returns-in-Some-clause-answer
+returns-in-Some-clause-answer g c =
+    let h = subst (λ (k : ℕ). ReadsLine k (waiting g.S.Source.left c.lines.lines) (waiting g.S.Source.left c.read_line.new.self) (line_read c.read_line.new.self) (Ok line_ends.Line))
+    c.lines.invariant.limit ((rw c.in-Ok-Line.field-0-is at c.in-Ok-Line.ensures.line) c.lines.invariant.going_on) in
+    let at = rw c.in-Some.is at c.in_ok-end-in-Ok-Line.ensures in
+    let k = c.in_ok-finish-in-Ok-Line.ensures in
+    ended_at (settings_of c.args.start) (waiting g.S.Source.left c.args.lines.now) (waiting g.S.Source.left c.lines.lines) (waiting g.S.Source.left c.read_line.new.self) (line_read c.read_line.new.self) _ _ c.lines.state c.run_line.new.state c.in-Some.end _
+    c.lines.invariant.so_far h (subst (λ (l : List ℕ). StopsRun c.lines.state c.run_line.new.state l c.in-Some.end) c.line.ensures at) (record { status_is = k.status; out = k.out; err = k.err })
+
+pub lines-preserved : goal.lines-preserved
+lines-preserved g c =
+    let h = subst (λ (k : ℕ). ReadsLine k (waiting g.S.Source.left c.lines.lines) (waiting g.S.Source.left c.read_line.new.self) (line_read c.read_line.new.self) (Ok line_ends.Line))
+    c.lines.invariant.limit ((rw c.in-Ok-Line.field-0-is at c.in-Ok-Line.ensures.line) c.lines.invariant.going_on) in
+    let k : AdvancesRun c.lines.state c.run_line.new.state c.line.result.now = rw c.in_default.is at c.in_ok-end-in-Ok-Line.ensures in
+    record {
+      same = c.in-Ok-Line.ensures.same_reference ∙ c.lines.invariant.same;
+      ready = c.in-Ok-Line.ensures.ready;
+      limit = c.in-Ok-Line.ensures.limit ∙ c.lines.invariant.limit;
+      going_on = c.in-Ok-Line.ensures.going_on;
+      later = omega (arith, c.in-Ok-Line.ensures.faults_only_rise);
+      steady = λ h. ((c.in-Ok-Line.ensures.steady c.lines.invariant.going_on) (c.lines.invariant.steady h)).0;
+      so_far = goes_on (settings_of c.args.start) (waiting g.S.Source.left c.args.lines.now) (waiting g.S.Source.left c.lines.lines) (waiting g.S.Source.left c.read_line.new.self) (line_read c.read_line.new.self) c.lines.state c.run_line.new.state c.lines.invariant.so_far h
+          (subst (λ (l : List ℕ). AdvancesRun c.lines.state c.run_line.new.state l) c.line.ensures k);
+    }
