@@ -6,7 +6,7 @@ use Rattle.std.proofs.lemmas.List.Elements.{All-cons, All-contains, All-nil}
 use Rattle.command_words.specs.declared.settings.Limits.{Limits}
 use Rattle.command_words.specs.declared.settings.Setting.{Setting}
 use Rattle.command_words.specs.declared.settings.Setting.TheVariants.{Net}
-use Rattle.command_words.specs.Limits.{most_leaves}
+use Rattle.command_words.specs.Limits.{greatest_net}
 use Rattle.command_words.specs.Settings.{AreSettings, IsAllowed, GiveLimits}
 
 -- each setting of words is allowed
@@ -16,8 +16,8 @@ all_allowed (flag ∷ number ∷ words) (s ∷ ss) x = All-cons IsAllowed s ss x
 all_allowed _ _ x = absurd (assumption)
 
 -- the limit is one that is set, or the default one
-pub net_range : (words : List (List ℕ)) (limits : Limits) → GiveLimits words limits → limits.net ≤ most_leaves
-net_range words limits gives = elim (cases_lt most_leaves limits.net) [
+pub net_range : (words : List (List ℕ)) (limits : Limits) → GiveLimits words limits → limits.net ≤ greatest_net
+net_range words limits gives = elim (cases_lt greatest_net limits.net) [
   | inr within ↦ within
   | inl over ↦ absurd (
       let none : (k : ℕ) → Contains gives.settings (Net k) → ⊥ = λ k at.

@@ -8,7 +8,7 @@ use Rattle.command_words.specs.declared.command.Command.TheVariants.{Run, Report
 use Rattle.command_words.specs.declared.settings.Limits.{Limits}
 use Rattle.command_words.specs.declared.settings.Setting.{Setting}
 use Rattle.command_words.specs.declared.settings.Setting.TheVariants.{Workers, Fuel, Net}
-use Rattle.command_words.specs.Limits.{default_fuel, default_leaves}
+use Rattle.command_words.specs.Limits.{default_fuel, default_net}
 use Rattle.command_words.specs.Settings.{AreLimits, AreOnce, AreSettings, IsLimit, IsNumber, IsSetting, GiveLimits, flag_of}
 use Rattle.command_words.specs.Words.{CallAlike, IsCommand, IsWithLimits, IsWithLines, MaySetWorkers, SetsWorkers}
 use Rattle.command_words.proofs.OnceSettings.{once_flags, once_without}
@@ -83,7 +83,7 @@ module _ (more others : List (List ℕ)) (flag number : List ℕ) (n : ℕ) (us 
         once = once_stays b.before b.behind us n most (subst AreOnce b.all_is gives.once);
         left = record {
           fuel = limit_stays b.before b.behind (Workers n ∷ []) us Fuel default_fuel limits.fuel set most (λ m k e. cc) left.fuel;
-          net = limit_stays b.before b.behind (Workers n ∷ []) us Net default_leaves limits.net set most (λ m k e. cc) left.net;
+          net = limit_stays b.before b.behind (Workers n ∷ []) us Net default_net limits.net set most (λ m k e. cc) left.net;
         };
       }
 

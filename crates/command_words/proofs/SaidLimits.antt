@@ -5,7 +5,7 @@ use Rattle.std.proofs.lemmas.Bool.{cases_order}
 use Rattle.command_words.specs.declared.settings.Limits.{Limits}
 use Rattle.command_words.specs.declared.settings.Setting.{Setting}
 use Rattle.command_words.specs.declared.settings.Setting.TheVariants.{Fuel, Net}
-use Rattle.command_words.specs.Limits.{default_fuel, default_leaves}
+use Rattle.command_words.specs.Limits.{default_fuel, default_net}
 use Rattle.command_words.specs.Settings.{AreLimits, IsLimit, GiveLimits}
 use Rattle.command_words.proofs.SettingWords.{one_list}
 
@@ -25,6 +25,6 @@ pub one_limits : (words : List (List ℕ)) (a b : Limits) → GiveLimits words a
 one_limits words a b x y =
     let same : AreLimits x.settings b = subst (λ (ss : List Setting). AreLimits ss b) (one_list words y.settings x.settings y.are x.are) y.left in
     let fuels : a.fuel ≡ b.fuel = one_limit x.settings Fuel default_fuel a.fuel b.fuel x.left.fuel same.fuel in
-    let nets : a.net ≡ b.net = one_limit x.settings Net default_leaves a.net b.net x.left.net same.net in
+    let nets : a.net ≡ b.net = one_limit x.settings Net default_net a.net b.net x.left.net same.net in
     let limits : ℕ → ℕ → Limits = λ f n. record { fuel = f; net = n } in
     ap (λ f. limits f a.net) fuels ∙ ap (limits b.fuel) nets

@@ -18,12 +18,12 @@ abbrev pub default_fuel : ℕ
 default_fuel = 100000000
 
 -- the most leaves that an instant may have
-abbrev pub most_leaves : ℕ
-most_leaves = 65536
+abbrev pub greatest_net : ℕ
+greatest_net = 65536
 
 -- and how many it may have where no net is set
-abbrev pub default_leaves : ℕ
-default_leaves = most_leaves
+abbrev pub default_net : ℕ
+default_net = greatest_net
 
 -- the most lines of a generated trace
 abbrev pub most_generated_lines : ℕ

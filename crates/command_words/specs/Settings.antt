@@ -2,7 +2,7 @@
 use Rattle.std.specs.Prelude.{◌≡◌, ◌≢◌, ℕ, ◌≤◌, List, [], ◌∷◌, length, codes, AllPairs, Contains, Option, Some, ◌↔◌, ⊤}
 use Rattle.std.specs.Int.{IsInRange}
 use Rattle.std.specs.Str.Parse.{IsNumeral, digits_value}
-use Rattle.command_words.specs.Limits.{most_word_digits, most_workers, default_fuel, most_leaves, default_leaves}
+use Rattle.command_words.specs.Limits.{most_word_digits, most_workers, default_fuel, greatest_net, default_net}
 use Rattle.command_words.specs.declared.settings.Limits.{Limits}
 use Rattle.command_words.specs.declared.settings.Setting.{Setting}
 use Rattle.command_words.specs.declared.settings.Setting.TheVariants.{Workers, Fuel, Net}
@@ -18,7 +18,7 @@ pub record IsNumber (word : List ℕ) (n : ℕ) : Type 0 where
 abbrev pub IsAllowed : Setting → Type 0
 IsAllowed (Workers n) = IsInRange 1 most_workers n
 IsAllowed (Fuel n) = ⊤
-IsAllowed (Net n) = IsInRange 1 most_leaves n
+IsAllowed (Net n) = IsInRange 1 greatest_net n
 
 -- the word in front of a setting's number
 abbrev pub flag_of : Setting → List ℕ
@@ -56,7 +56,7 @@ pub record IsLimit (ss : List Setting) (set : ℕ → Setting) (default n : ℕ)
 -- the limits that these settings leave, with the defaults where nothing else is set
 pub record AreLimits (ss : List Setting) (limits : Limits) : Type 0 where
   pub fuel : IsLimit ss Fuel default_fuel limits.fuel
-  pub net : IsLimit ss Net default_leaves limits.net
+  pub net : IsLimit ss Net default_net limits.net
 
 -- the words are settings, each kind once at most, that leave these limits
 pub record GiveLimits (words : List (List ℕ)) (limits : Limits) : Type 0 where

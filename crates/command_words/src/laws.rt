@@ -8,7 +8,7 @@ ghost use Rattle.command_words.specs.Words.{CallAlike, IsCommand, SetsWorkers};
 
 use crate::command::MOST_GENERATED_LINES;
 use crate::settings::{
-    DEFAULT_FUEL, DEFAULT_LEAVES, GREATEST_FUEL, MOST_LEAVES, MOST_WORD_DIGITS, MOST_WORKERS,
+    DEFAULT_FUEL, DEFAULT_NET, GREATEST_FUEL, GREATEST_NET, MOST_WORD_DIGITS, MOST_WORKERS,
 };
 
 /// Words are those of one command at most.
@@ -33,10 +33,10 @@ pub fn limits_law()
     ensures lines { MOST_GENERATED_LINES ≡ most.most_generated_lines }
     ensures fuels { GREATEST_FUEL ≡ most.greatest_fuel }
     ensures default_fuel { DEFAULT_FUEL ≡ most.default_fuel }
-    ensures leaves { MOST_LEAVES ≡ most.most_leaves }
-    ensures default_leaves { DEFAULT_LEAVES ≡ most.default_leaves }
+    ensures leaves { GREATEST_NET ≡ most.greatest_net }
+    ensures default_leaves { DEFAULT_NET ≡ most.default_net }
 
     // The limits that words give are no greater.
     ensures fuel { (words : List (List ℕ)) (limits : Limits) → GiveLimits words limits → limits.fuel ≤ most.greatest_fuel }
-    ensures net { (words : List (List ℕ)) (limits : Limits) → GiveLimits words limits → limits.net ≤ most.most_leaves }
+    ensures net { (words : List (List ℕ)) (limits : Limits) → GiveLimits words limits → limits.net ≤ most.greatest_net }
 {}

@@ -10,6 +10,5 @@ mod tests;
 pub use command::{Command, MOST_GENERATED_LINES, command_of};
 pub use laws::{command_law, limits_law, workers_law};
 pub use settings::{
-    DEFAULT_FUEL, DEFAULT_LEAVES, GREATEST_FUEL, Limits, MOST_LEAVES, MOST_WORD_DIGITS,
-    MOST_WORKERS,
+    DEFAULT_FUEL, DEFAULT_NET, GREATEST_FUEL, GREATEST_NET, Limits, MOST_WORD_DIGITS, MOST_WORKERS,
 };

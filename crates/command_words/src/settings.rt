@@ -16,10 +16,10 @@ pub const GREATEST_FUEL: u32 = 999_999_999;
 pub const DEFAULT_FUEL: u32 = 100_000_000;
 
 /// The most leaves that an instant may have.
-pub const MOST_LEAVES: u32 = 65_536;
+pub const GREATEST_NET: u32 = 65_536;
 
 /// How many leaves an instant may have where no net is set.
-pub const DEFAULT_LEAVES: u32 = MOST_LEAVES;
+pub const DEFAULT_NET: u32 = GREATEST_NET;
 
 /// How much a run may do: the agents that may run in all its instants together, and the leaves of one instant.
 #[derive(Clone, Copy, Debug, PartialEq, Eq)]
@@ -35,7 +35,7 @@ pub(crate) enum Setting {
     Workers(u32),
     /// How many agents may run, in all instants together.
     Fuel(u32),
-    /// How many leaves an instant may have, 1 to `MOST_LEAVES`.
+    /// How many leaves an instant may have, 1 to `GREATEST_NET`.
     Net(u32),
 }
 
@@ -75,7 +75,7 @@ impl Settings {
     {
         Limits {
             fuel: self.fuel.unwrap_or(DEFAULT_FUEL),
-            net: self.net.unwrap_or(DEFAULT_LEAVES),
+            net: self.net.unwrap_or(DEFAULT_NET),
         }
     }
 }
@@ -97,7 +97,7 @@ pub(crate) fn setting_of(flag: &str, number: &str) -> Option<Setting>
     match (flag, number_of(number)?) {
         ("--workers", n @ 1..=MOST_WORKERS) => Some(Setting::Workers(n)),
         ("--fuel", n) => Some(Setting::Fuel(n)),
-        ("--net", n @ 1..=MOST_LEAVES) => Some(Setting::Net(n)),
+        ("--net", n @ 1..=GREATEST_NET) => Some(Setting::Net(n)),
         _ => None,
     }
 }

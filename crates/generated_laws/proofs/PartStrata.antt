@@ -10,7 +10,7 @@ use Rattle.tdcc_reader.specs.Trees as tree
 use Rattle.expansion_laws.specs.SymbolicAgents.{binders}
 use Rattle.expansion_laws.specs.Numbering.{Binding, binding, bound_cell, bound_agent}
 use Rattle.generated_laws.specs.GeneratedUnits.{GeneratedUnit, Follows, Defaults, Delays, Starts, Ends, Bounds}
-use Rattle.generated_laws.specs.GeneratedSurfaces.{signal_on, part_tree}
+use Rattle.generated_laws.specs.GeneratedSurfaces.{drawn_signal_on, part_tree}
 use Rattle.generated_laws.specs.GeneratedTables.{part_levels, declared_levels}
 use Rattle.generated_laws.proofs.Parts.{IsPart}
 use Rattle.generated_laws.proofs.Rows.{row_passes, each_append}
@@ -20,12 +20,12 @@ use Rattle.generated_laws.proofs.PartSketches.{part_sketch, parts_sketch, part_l
 
 -- the agent of a `when` with the cell d, and that of a `watching` that ends with h
 abbrev when_agent : ℕ → ℕ → ℕ → ℕ → Agent
-when_agent n i j d = let x : Agent = Then (signal_on i) (Par (Else (signal_on d) (Par (Tell (signal_on j)) (Hence (Tell (signal_on j))))) (Hence (Tell (signal_on d)))) in New n (Par x (Hence x))
+when_agent n i j d = let x : Agent = Then (drawn_signal_on i) (Par (Else (drawn_signal_on d) (Par (Tell (drawn_signal_on j)) (Hence (Tell (drawn_signal_on j))))) (Hence (Tell (drawn_signal_on d)))) in New n (Par x (Hence x))
 
 abbrev watch_agent : ℕ → ℕ → ℕ → ℕ → ℕ → Agent
 watch_agent n i j h d =
-    let w : Agent = Then (signal_on h) (Par (Tell (signal_on d)) (Hence (Tell (signal_on d)))) in
-    let g : Agent = Else (signal_on i) (Else (signal_on d) (Tell (signal_on j))) in
+    let w : Agent = Then (drawn_signal_on h) (Par (Tell (drawn_signal_on d)) (Hence (Tell (drawn_signal_on d)))) in
+    let g : Agent = Else (drawn_signal_on i) (Else (drawn_signal_on d) (Tell (drawn_signal_on j))) in
     New n (Par (Par w (Hence w)) (Par g (Hence g)))
 
 -- a hidden cell has its number, and hides no declared one
@@ -107,7 +107,7 @@ module _ (table : List ℕ) (signals : (j : ℕ) → j < 32 → slice_index tabl
       let ask : level i + 0 ≤ level (32 + x) = let a = signals i fi in let c = numbers x fx in omega arith in
       (ask, (ask, tt))
 
-  -- The table meets the edges of the parts, of which the hidden cells are numbered from n signal_on.
+  -- The table meets the edges of the parts, of which the hidden cells are numbered from n drawn_signal_on.
   pub parts_met : (us : List GeneratedUnit) → Each IsPart us → (front : List ℕ) → table ≡ front ++ flat_map part_levels us → (m n k : ℕ) → n ≡ length front → Met k (bound_agent [] n (parts_sketch m us))
   parts_met [] all front e m n k long = tt
   parts_met (u ∷ []) all front e m n k long = part_met u all.0 front [] e m n k long

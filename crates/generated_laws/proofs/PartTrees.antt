@@ -9,7 +9,7 @@ use Rattle.tdcc_reader.specs.Surfaces.{Placed, Declared, cell_in_scope, cell_vie
 use Rattle.tdcc_reader.specs.Trees.{Tree, Tell, Then, Par, Always, form_listing}
 use Rattle.trace_text.specs.Generated.{signal_name, number_name}
 use Rattle.generated_laws.specs.GeneratedUnits.{GeneratedUnit, Follows, Defaults, Delays, Starts, Ends, Bounds, generated_units}
-use Rattle.generated_laws.specs.GeneratedSurfaces.{cells, signal_on, part_tree, par_of, surface}
+use Rattle.generated_laws.specs.GeneratedSurfaces.{cells, drawn_signal_on, part_tree, par_of, surface}
 use Rattle.generated_laws.proofs.Rows.{row_passes}
 use Rattle.generated_laws.proofs.Parts.{IsPart, parts_are}
 use Rattle.generated_laws.proofs.PartPhrases.{part_phrase, agent_phrase, signals, numbers, program_phrase, agent_bare}
@@ -28,7 +28,7 @@ number_placed i few = eqb-true (cell_in_scope scope (number_name i)) (32 + i) (r
 
 -- TREES
 
--- what is planted signal_on the cells of names
+-- what is planted drawn_signal_on the cells of names
 two_planted : (f : ℕ → ℕ → Tree) (i j : ℕ) → j < 32 → i < j → f (cell_in_scope scope (signal_name i)) (cell_in_scope scope (signal_name j)) ≡ f i j
 two_planted f i j few less = ap (λ (x : ℕ). f x (cell_in_scope scope (signal_name j))) (signal_placed i (omega arith)) ∙ ap (f i) (signal_placed j few)
 
@@ -40,8 +40,8 @@ part_planted (Starts i j) (few, less) n = two_planted (λ x y. part_tree (Starts
 part_planted (Ends i j h) (few, less, stop) n =
     two_planted (λ x y. part_tree (Ends x y (cell_in_scope scope (signal_name h)))) i j few less ∙ ap (λ (x : ℕ). part_tree (Ends i j x)) (signal_placed h (omega arith))
 part_planted (Bounds i m k) (fi, fm, fk) n =
-    ap (λ (x : ℕ). Always (Then (signal_on x) (Tell ((cell_in_scope scope (number_name m), token.AtLeast (pos k)) ∷ [])))) (signal_placed i fi)
-    ∙ ap (λ (x : ℕ). Always (Then (signal_on i) (Tell ((x, token.AtLeast (pos k)) ∷ [])))) (number_placed m fm)
+    ap (λ (x : ℕ). Always (Then (drawn_signal_on x) (Tell ((cell_in_scope scope (number_name m), token.AtLeast (pos k)) ∷ [])))) (signal_placed i fi)
+    ∙ ap (λ (x : ℕ). Always (Then (drawn_signal_on i) (Tell ((x, token.AtLeast (pos k)) ∷ [])))) (number_placed m fm)
 
 agent_planted : (us : List GeneratedUnit) → Each IsPart us → (n : ℕ) → agent_tree (agent_phrase us) scope n ≡ par_of (map part_tree us)
 agent_planted [] all n = refl

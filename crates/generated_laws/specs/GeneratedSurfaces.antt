@@ -24,9 +24,9 @@ cells = map signal_cell (range_with_len 0 32) ++ map number_cell (range_with_len
 
 -- FORMS
 
--- the signal j is signal_on
-abbrev pub signal_on : ℕ → Constraint
-signal_on j = (j, token.On) ∷ []
+-- the signal j is drawn_signal_on
+abbrev pub drawn_signal_on : ℕ → Constraint
+drawn_signal_on j = (j, token.On) ∷ []
 
 -- the number i is k or more
 abbrev pub at_least : ℕ → ℕ → Constraint
@@ -34,12 +34,12 @@ at_least i k = (32 + i, token.AtLeast (pos k)) ∷ []
 
 -- the forms of a part
 abbrev pub part_tree : GeneratedUnit → Tree
-part_tree (Follows g j) = Always (Then (signal_on g) (Tell (signal_on j)))
-part_tree (Defaults g j) = Always (Else (signal_on g) (Tell (signal_on j)))
-part_tree (Delays g j) = Always (Then (signal_on g) (Next (Tell (signal_on j))))
-part_tree (Starts g j) = When (signal_on g) (Always (Tell (signal_on j)))
-part_tree (Ends g j h) = Watch (Always (Else (signal_on g) (Tell (signal_on j)))) (signal_on h)
-part_tree (Bounds g i k) = Always (Then (signal_on g) (Tell (at_least i k)))
+part_tree (Follows g j) = Always (Then (drawn_signal_on g) (Tell (drawn_signal_on j)))
+part_tree (Defaults g j) = Always (Else (drawn_signal_on g) (Tell (drawn_signal_on j)))
+part_tree (Delays g j) = Always (Then (drawn_signal_on g) (Next (Tell (drawn_signal_on j))))
+part_tree (Starts g j) = When (drawn_signal_on g) (Always (Tell (drawn_signal_on j)))
+part_tree (Ends g j h) = Watch (Always (Else (drawn_signal_on g) (Tell (drawn_signal_on j)))) (drawn_signal_on h)
+part_tree (Bounds g i k) = Always (Then (drawn_signal_on g) (Tell (at_least i k)))
 
 -- the trees in a par that groups to the right
 abbrev pub par_of : List Tree → Tree

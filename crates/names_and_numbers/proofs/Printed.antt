@@ -8,7 +8,7 @@ use Rattle.std.proofs.lemmas.Bool.{eqb-true}
 use Rattle.std.proofs.lemmas.Str.Parse.{digit_from_value}
 use Rattle.std.proofs.lemmas.Fmt.{decimal_is_IsNumeral}
 use Rattle.names_and_numbers.specs.Names.{is_letter, is_digit}
-use Rattle.names_and_numbers.specs.Numbers.{is_minus, are_digits, number_of}
+use Rattle.names_and_numbers.specs.Numbers.{is_minus, are_digits, value_of_number}
 
 pub range_digit : (c : ℕ) → IsInRange 48 57 c → is_digit c ≡ true
 range_digit c range = ap (λ t. t && nat_le c 57) (low c range.0) ∙ high c range.1
@@ -47,12 +47,12 @@ no_minus b d = go (is_minus b) refl
     go true e = let w : false ≡ true = ap is_digit (sym (eqb-true b 45 e)) ∙ d in cc
     go false e = refl
 
-numeral_value : (ds : List ℕ) (n : ℕ) → 0 < length ds → AllDigits 10 ds → digits_value 10 ds ≡ n → number_of ds ≡ pos n
+numeral_value : (ds : List ℕ) (n : ℕ) → 0 < length ds → AllDigits 10 ds → digits_value 10 ds ≡ n → value_of_number ds ≡ pos n
 numeral_value [] n h all e = absurd (omega (arith, h))
 numeral_value (d ∷ ds) n h (digit, all) e = ap (λ t. if t then neg_ℤ (pos (digits_value 10 ds)) else pos (digits_value 10 (d ∷ ds))) (no_minus d (range_digit d (digit_from_value d digit))) ∙ ap pos e
 
-pub number_of-decimal : (n : ℕ) → n < 2 ^ 64 → number_of (decimal n) ≡ pos n
+pub number_of-decimal : (n : ℕ) → n < 2 ^ 64 → value_of_number (decimal n) ≡ pos n
 number_of-decimal n h = let (numeral, value) = decimal_is_IsNumeral n h in numeral_value (decimal n) n numeral.0 numeral.1 value
 
-pub number_of-minus_decimal : (n : ℕ) → n < 2 ^ 64 → number_of (45 ∷ decimal n) ≡ neg_ℤ (pos n)
+pub number_of-minus_decimal : (n : ℕ) → n < 2 ^ 64 → value_of_number (45 ∷ decimal n) ≡ neg_ℤ (pos n)
 number_of-minus_decimal n h = let (numeral, value) = decimal_is_IsNumeral n h in ap (λ v. neg_ℤ (pos v)) value

@@ -24,14 +24,14 @@ digits_of [] = []
 digits_of (b ∷ bs) = if is_minus b then bs else b ∷ bs
 
 -- the bytes are a number: digits, or a minus and digits
-abbrev pub is_number : List ℕ → Bool
-is_number bytes = are_digits (digits_of bytes)
+abbrev pub is_number_text : List ℕ → Bool
+is_number_text bytes = are_digits (digits_of bytes)
 
 -- the value of a number: that of its digits as a decimal numeral, negated where a minus stands in front
-abbrev pub number_of : List ℕ → ℤ
-number_of [] = pos 0
-number_of (b ∷ bs) = if is_minus b then neg_ℤ (pos (digits_value 10 bs)) else pos (digits_value 10 (b ∷ bs))
+abbrev pub value_of_number : List ℕ → ℤ
+value_of_number [] = pos 0
+value_of_number (b ∷ bs) = if is_minus b then neg_ℤ (pos (digits_value 10 bs)) else pos (digits_value 10 (b ∷ bs))
 
 -- the value of the number that the bytes are, if they are one that is not too long
 abbrev pub number_of_text : List ℕ → Option ℤ
-number_of_text bytes = if are_few_digits (digits_of bytes) then Some (number_of bytes) else None
+number_of_text bytes = if are_few_digits (digits_of bytes) then Some (value_of_number bytes) else None

@@ -4,7 +4,7 @@ ghost use Rattle.std.specs.List.{list_all};
 ghost use Rattle.std.specs.Str.Parse.{digits_value};
 ghost use Rattle.names_and_numbers.specs.Limits.{most_digits};
 ghost use Rattle.names_and_numbers.specs.Names.{is_digit};
-ghost use Rattle.names_and_numbers.specs.Numbers.{are_digits, are_few_digits, digits_of, is_number, number_of, number_of_text};
+ghost use Rattle.names_and_numbers.specs.Numbers.{are_digits, are_few_digits, digits_of, is_number_text, value_of_number, number_of_text};
 
 use crate::letters::is_digit;
 use crate::limits::MOST_DIGITS;
@@ -35,9 +35,9 @@ fn digits_value(digits: &[u8]) -> u32
 
 /// The value of a number of at most [`MOST_DIGITS`] digits.
 pub fn number_value(bytes: &[u8]) -> i64
-    requires number { is_number bytes.now ≡ true }
+    requires number { is_number_text bytes.now ≡ true }
     requires short { length (digits_of bytes.now) ≤ most_digits }
-    ensures value { result ≡ number_of bytes.now }
+    ensures value { result ≡ value_of_number bytes.now }
     ensures bound { nat_abs result < 10 ^ 9 }
 {
     let value = i64::from(digits_value(digits_of(bytes)));

@@ -37,13 +37,16 @@ goes_on l ws (suc left) place qs within rest goes =
     go : ((next : ℕ) (rs : List StackSymbol) → next ≤ length ws → length ws ≤ next + left → run_in l start (take next ws) ≡ Some rs → MachineVerdict l ws)
         → (place < length ws) ⊎ (length ws ≤ place) → (o : Option (List StackSymbol)) → feed_in l qs (get_or ws place word.Name) ≡ o → MachineVerdict l ws
     go later (inl h) (Some rs) e = later (place + 1) rs (omega arith) (omega arith) (run_more l ws place word.Name start qs h goes ∙ e)
-    go later (inl h) None e = inr (place, record {
-      within = within;
-      to_come = qs;
-      goes = goes;
-      open_end = λ same. absurd (omega arith);
-      stuck = λ less. ap (λ n. run_in l start (take n ws)) (sym (add-one place)) ∙ run_more l ws place word.Name start qs h goes ∙ e;
-    })
+    go later (inl h) None e = inr (
+      place,
+      record {
+        within = within;
+        to_come = qs;
+        goes = goes;
+        open_end = λ same. absurd (omega arith);
+        stuck = λ less. ap (λ n. run_in l start (take n ws)) (sym (add-one place)) ∙ run_more l ws place word.Name start qs h goes ∙ e;
+      },
+    )
     go later (inr h) o e = at_end l ws place qs (omega arith) goes
 
 -- Each list of terms is a program, or has the place of a fault.

@@ -109,7 +109,11 @@ fn run_machine(
     let mut steps = Vec::new(alloc);
     expect(
         &mut parts,
-        &[StackSymbol::Declarations, StackSymbol::OneUnit, StackSymbol::MoreUnits],
+        &[
+            StackSymbol::Declarations,
+            StackSymbol::OneUnit,
+            StackSymbol::MoreUnits,
+        ],
     )?;
     for (place, word) in words.iter().enumerate() {
         let place = place as u32;

@@ -10,7 +10,11 @@ fn after_declaration(word: Word) -> Option<&'static [StackSymbol]>
     ensures { option_copied result ≡ after_declaration word }
 {
     match word {
-        Word::Signal => Some(&[StackSymbol::DeclaredName, StackSymbol::MoreNames, StackSymbol::Declarations]),
+        Word::Signal => Some(&[
+            StackSymbol::DeclaredName,
+            StackSymbol::MoreNames,
+            StackSymbol::Declarations,
+        ]),
         Word::Int => Some(&[
             StackSymbol::DeclaredIntName,
             StackSymbol::DomainIn,
@@ -59,11 +63,31 @@ fn after_unit(word: Word) -> Option<&'static [StackSymbol]>
 {
     match word {
         Word::Skip => Some(&[]),
-        Word::Name => Some(&[StackSymbol::Bound, StackSymbol::MoreTokens, StackSymbol::EndTell]),
-        Word::Bang => Some(&[StackSymbol::DeniedName, StackSymbol::MoreTokens, StackSymbol::EndTell]),
-        Word::Hash => Some(&[StackSymbol::ClashingName, StackSymbol::MoreTokens, StackSymbol::EndTell]),
-        Word::OpenBrace => Some(&[StackSymbol::OneUnit, StackSymbol::MoreUnits, StackSymbol::TheClose]),
-        Word::If => Some(&[StackSymbol::OneToken, StackSymbol::MoreTokens, StackSymbol::Branch]),
+        Word::Name => Some(&[
+            StackSymbol::Bound,
+            StackSymbol::MoreTokens,
+            StackSymbol::EndTell,
+        ]),
+        Word::Bang => Some(&[
+            StackSymbol::DeniedName,
+            StackSymbol::MoreTokens,
+            StackSymbol::EndTell,
+        ]),
+        Word::Hash => Some(&[
+            StackSymbol::ClashingName,
+            StackSymbol::MoreTokens,
+            StackSymbol::EndTell,
+        ]),
+        Word::OpenBrace => Some(&[
+            StackSymbol::OneUnit,
+            StackSymbol::MoreUnits,
+            StackSymbol::TheClose,
+        ]),
+        Word::If => Some(&[
+            StackSymbol::OneToken,
+            StackSymbol::MoreTokens,
+            StackSymbol::Branch,
+        ]),
         Word::Hence => Some(&[StackSymbol::OneUnit, StackSymbol::EndBody]),
         Word::New => Some(&[StackSymbol::NewKind]),
         Word::Next | Word::Always => Some(&[StackSymbol::OneUnit, StackSymbol::EndBody]),
@@ -154,7 +178,12 @@ fn after_kind(word: Word) -> Option<&'static [StackSymbol]>
     ensures { option_copied result ≡ after_kind word }
 {
     match word {
-        Word::Signal => Some(&[StackSymbol::LocalName, StackSymbol::TheIn, StackSymbol::OneUnit, StackSymbol::EndLocal]),
+        Word::Signal => Some(&[
+            StackSymbol::LocalName,
+            StackSymbol::TheIn,
+            StackSymbol::OneUnit,
+            StackSymbol::EndLocal,
+        ]),
         Word::Int => Some(&[
             StackSymbol::LocalIntName,
             StackSymbol::DomainIn,
@@ -225,6 +254,10 @@ pub fn parts_after(part: StackSymbol, word: Word) -> Option<&'static [StackSymbo
             Word::CloseBrace => Some(&[]),
             _ => None,
         },
-        StackSymbol::EndTell | StackSymbol::EndBody | StackSymbol::EndLocal | StackSymbol::EndWatch | StackSymbol::EndTimed => None,
+        StackSymbol::EndTell
+        | StackSymbol::EndBody
+        | StackSymbol::EndLocal
+        | StackSymbol::EndWatch
+        | StackSymbol::EndTimed => None,
     }
 }

@@ -8,7 +8,7 @@ use Rattle.program_lexemes.specs.declared.bytes.TextForm.{TextForm}
 use Rattle.program_lexemes.specs.Spellings.{is_keyword, is_symbol}
 use Rattle.program_lexemes.specs.Forms.{is_letter, is_digit, is_word_byte, is_minus, is_dollar, are_digits, are_few_digits, word_kind, kind_if, kind_of}
 use Rattle.names_and_numbers.proofs.Printed.{no_minus}
-use Rattle.program_lexemes.specs.Numbers.{is_number}
+use Rattle.program_lexemes.specs.Numbers.{is_number_text}
 use Rattle.program_lexemes.proofs.LongestLexeme.{kinds}
 
 -- where this kind comes, its test holds
@@ -23,7 +23,7 @@ no_kind l e = cc
 abbrev Says : LexKind → ℕ → List ℕ → Type 0
 Says kind.Name b bs = Unit {0}
 Says kind.Keyword b bs = is_keyword (b ∷ bs) ≡ true
-Says kind.Number b bs = is_number (b ∷ bs) ≡ true
+Says kind.Number b bs = is_number_text (b ∷ bs) ≡ true
 Says kind.Symbol b bs = is_symbol (b ∷ bs) ≡ true
 
 word_says : (b : ℕ) (bs : List ℕ) → Says (word_kind (b ∷ bs)) b bs
@@ -33,7 +33,7 @@ word_says b bs = go (is_keyword (b ∷ bs)) refl
     go true e = e
     go false e = tt
 
-digits_number : (b : ℕ) (bs : List ℕ) → is_digit b ≡ true → list_all is_digit bs ≡ true → is_number (b ∷ bs) ≡ true
+digits_number : (b : ℕ) (bs : List ℕ) → is_digit b ≡ true → list_all is_digit bs ≡ true → is_number_text (b ∷ bs) ≡ true
 digits_number b bs d all = ap (λ t. are_digits (if t then bs else b ∷ bs)) (no_minus b d) ∙ ap (λ t. t && list_all is_digit bs) d ∙ all
 
 says : (b : ℕ) (bs : List ℕ) (l : LexKind) (letter digit minus dollar : Bool) → is_digit b ≡ digit → is_minus b ≡ minus → kinds letter digit minus dollar b bs ≡ Some l → Says l b bs
@@ -54,6 +54,6 @@ pub kind_symbol : (form : TextForm) (bytes : List ℕ) → kind_of form bytes �
 kind_symbol form [] e = absurd (no_kind kind.Symbol e)
 kind_symbol form (b ∷ bs) e = kind_says form b bs kind.Symbol e
 
-pub kind_number : (form : TextForm) (bytes : List ℕ) → kind_of form bytes ≡ Some kind.Number → is_number bytes ≡ true
+pub kind_number : (form : TextForm) (bytes : List ℕ) → kind_of form bytes ≡ Some kind.Number → is_number_text bytes ≡ true
 kind_number form [] e = absurd (no_kind kind.Number e)
 kind_number form (b ∷ bs) e = kind_says form b bs kind.Number e

@@ -14,7 +14,7 @@ use Rattle.program_lexemes.specs.declared.bytes.TextForm.{TextForm}
 use Rattle.program_lexemes.specs.declared.bytes.TextForm.TheVariants.{Program}
 use Rattle.program_lexemes.specs.Spellings.{is_keyword, is_symbol}
 use Rattle.program_lexemes.specs.Forms.{is_letter, is_digit, is_minus, is_word_byte, are_digits, are_few_digits, word_kind, kind_if, kind_of}
-use Rattle.program_lexemes.specs.Numbers.{is_number, value_of_number, digits_of, is_long}
+use Rattle.program_lexemes.specs.Numbers.{is_number_text, value_of_number, digits_of, is_long}
 use Rattle.program_lexemes.specs.Names.{IsName}
 use Rattle.program_lexemes.proofs.LongestLexeme.{kinds, by_letter, by_digit}
 use Rattle.program_lexemes.proofs.KindSays.{held, kind_number}
@@ -72,7 +72,7 @@ program_names bytes = (named bytes, names bytes)
 digit_no_letter : (b : ℕ) → is_digit b ≡ true → is_letter b ≡ false
 digit_no_letter b h = grind (arith, nat_tests)
 
-number_kind : (form : TextForm) (bytes : List ℕ) → is_number bytes ≡ true → kind_of form bytes ≡ Some kind.Number
+number_kind : (form : TextForm) (bytes : List ℕ) → is_number_text bytes ≡ true → kind_of form bytes ≡ Some kind.Number
 number_kind form [] e = let no : false ≡ true = e in cc
 number_kind form (b ∷ bs) e = go (is_minus b) refl e
   where
@@ -92,6 +92,6 @@ read bytes e = go (are_few_digits (digits_of bytes)) refl e
 -- A number of a text that is not too long is one that can be read.
 pub text_numbers : (form : TextForm) (bytes : List ℕ) → ((kind_of form bytes ≡ Some kind.Number) × (is_long kind.Number bytes ≡ false)) ↔ (number_of_text bytes ≡ Some (value_of_number bytes))
 text_numbers form bytes = (
-  (λ (is, short). ap (λ t. if t then Some (value_of_number bytes) else None) (both_true (is_number bytes) (nat_le (length (digits_of bytes)) most_digits) (kind_number form bytes is) (not_above (length (digits_of bytes)) most_digits short))),
-  (λ e. (number_kind form bytes (and_left (is_number bytes) (nat_le (length (digits_of bytes)) most_digits) (read bytes e)), no_more (length (digits_of bytes)) most_digits (and_right (is_number bytes) (nat_le (length (digits_of bytes)) most_digits) (read bytes e)))),
+  (λ (is, short). ap (λ t. if t then Some (value_of_number bytes) else None) (both_true (is_number_text bytes) (nat_le (length (digits_of bytes)) most_digits) (kind_number form bytes is) (not_above (length (digits_of bytes)) most_digits short))),
+  (λ e. (number_kind form bytes (and_left (is_number_text bytes) (nat_le (length (digits_of bytes)) most_digits) (read bytes e)), no_more (length (digits_of bytes)) most_digits (and_right (is_number_text bytes) (nat_le (length (digits_of bytes)) most_digits) (read bytes e)))),
 )

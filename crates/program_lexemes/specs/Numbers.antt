@@ -1,6 +1,6 @@
 -- Which names and numbers are too long. This project's own.
 use Rattle.std.specs.Prelude.{ℕ, List, length, Bool, false, nat_lt}
-pub use Rattle.names_and_numbers.specs.Numbers.{digits_of, is_number, value_of_number}
+pub use Rattle.names_and_numbers.specs.Numbers.{digits_of, is_number_text, value_of_number}
 use Rattle.names_and_numbers.specs.Limits.{longest_name, most_digits}
 use Rattle.program_lexemes.specs.declared.lexer.LexKind.{LexKind}
 use Rattle.program_lexemes.specs.declared.lexer.LexKind.TheVariants as kind

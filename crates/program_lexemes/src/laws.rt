@@ -7,7 +7,7 @@ ghost use Rattle.names_and_numbers.specs.Names.{is_name};
 ghost use Rattle.names_and_numbers.specs.Numbers.{number_of_text};
 ghost use Rattle.program_lexemes.specs.Limits.{longest_core_text, longest_program_text};
 ghost use Rattle.program_lexemes.specs.Names.{IsName};
-ghost use Rattle.program_lexemes.specs.Numbers.{is_long, is_number, value_of_number};
+ghost use Rattle.program_lexemes.specs.Numbers.{is_long, is_number_text, value_of_number};
 ghost use Rattle.program_lexemes.specs.SpacedLexemes.{AreCut, SpacedLexeme, spaced_text, spans};
 ghost use Rattle.program_lexemes.specs.Spellings.{is_keyword, is_symbol, keyword_bytes, keyword_named, symbol_bytes, symbol_named};
 ghost use Rattle.program_lexemes.specs.declared.keywords.Keyword.{Keyword};
@@ -38,7 +38,7 @@ pub fn kinds_law()
     ensures symbol { (form : TextForm) (bytes : List ℕ)
         → kind_of form bytes ≡ Some LexKind.Symbol → is_symbol bytes ≡ true }
     ensures number { (form : TextForm) (bytes : List ℕ)
-        → kind_of form bytes ≡ Some LexKind.Number → is_number bytes ≡ true }
+        → kind_of form bytes ≡ Some LexKind.Number → is_number_text bytes ≡ true }
 {}
 
 /// The decimal numeral of a number, as it is printed, is a lexeme whose value is the number, and so is the numeral

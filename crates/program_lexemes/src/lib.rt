@@ -14,7 +14,9 @@ mod tests;
 
 pub use bytes::TextForm;
 pub use keywords::{Keyword, keyword_of};
-pub use laws::{joined_law, kinds_law, lexemes_law, limits_law, names_law, numerals_law, spellings_law};
+pub use laws::{
+    joined_law, kinds_law, lexemes_law, limits_law, names_law, numerals_law, spellings_law,
+};
 pub use lexer::{LexFault, LexKind, Lexeme, lexemes};
 pub use limits::{LONGEST_CORE_TEXT, LONGEST_PROGRAM_TEXT};
 pub use readers::{is_long, lexeme_bytes};

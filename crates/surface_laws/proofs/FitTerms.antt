@@ -19,7 +19,7 @@ use Rattle.program_lexemes.specs.Forms.{kind_of, is_minus, are_digits}
 use Rattle.program_lexemes.specs.Lexemes.{Reads, bytes_of_lexeme}
 use Rattle.program_lexemes.specs.Names.{IsName}
 use Rattle.program_lexemes.specs.Spellings.{keyword_named, symbol_named}
-use Rattle.program_lexemes.specs.Numbers.{is_number, value_of_number, digits_of, is_long}
+use Rattle.program_lexemes.specs.Numbers.{is_number_text, value_of_number, digits_of, is_long}
 use Rattle.names_and_numbers.specs.Limits.{longest_name, most_digits}
 use Rattle.names_and_numbers.proofs.Decimals.{digits_all}
 use Rattle.program_lexemes.proofs.KindSays.{kind_number}
@@ -51,7 +51,7 @@ small_negative (suc v) h = let k : suc v < 1000000000 = h in let g : IsTrue (is_
 digits_small : (ds : List ℕ) → are_digits ds ≡ true → nat_lt most_digits (length ds) ≡ false → digits_value 10 ds < 10 ^ 9
 digits_small ds e h = digits_value_short (numerals_by_value (AllDigits 10) tells_digits) ds 9 (digits_all ds e) (ltb-false most_digits (length ds) h)
 
-number_small : (bytes : List ℕ) → is_number bytes ≡ true → nat_lt most_digits (length (digits_of bytes)) ≡ false → is_bound (value_of_number bytes) ≡ true
+number_small : (bytes : List ℕ) → is_number_text bytes ≡ true → nat_lt most_digits (length (digits_of bytes)) ≡ false → is_bound (value_of_number bytes) ≡ true
 number_small [] e h = cc
 number_small (b ∷ bs) e h = go (is_minus b) e h
   where

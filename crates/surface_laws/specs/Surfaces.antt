@@ -7,7 +7,7 @@ use Rattle.agent_core.specs.Programs.{CoreProgram}
 use Rattle.agent_core.specs.WellFormed.{IsAmong, IsConstraint, count_up}
 use Rattle.agent_core.specs.CellNames.{name_at}
 use Rattle.program_lexemes.specs.Names.{IsName}
-use Rattle.tdcc_reader.specs.Limits.{most_declared_cells}
+use Rattle.agent_core.specs.Limits.{most_declared_cells}
 use Rattle.tdcc_reader.specs.Surfaces.{SurfaceProgram}
 use Rattle.tdcc_reader.specs.Trees.{Tree, Skip, Tell, Then, Else, Par, New, Hence, Next, Always, When, Watch, Time, form_listing}
 

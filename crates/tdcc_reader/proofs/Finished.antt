@@ -6,7 +6,7 @@ use Rattle.program_grammar.specs.Phrases.{ProgramPhrase}
 use Rattle.program_grammar.specs.Spelling.{program}
 use Rattle.agent_core.specs.declared.node.CellDecl.{CellDecl}
 use Rattle.program_lexemes.specs.Limits.{longest_core_text}
-use Rattle.tdcc_reader.specs.Limits.{most_declared_cells}
+use Rattle.agent_core.specs.Limits.{most_declared_cells}
 use Rattle.tdcc_reader.specs.declared.dialect.Dialect.{Dialect}
 use Rattle.tdcc_reader.specs.declared.flat_form.FlatForm.{FlatForm}
 use Rattle.tdcc_reader.specs.declared.surface.Form.{Form}

@@ -15,7 +15,7 @@ use Rattle.program_grammar.specs.Phrases.{UnitPhrase, Tell, Braces, IfThen, IfEl
 use Rattle.program_grammar.specs.Phrases as phrase
 use Rattle.program_grammar.specs.Programs.{IsProgram, IsFault}
 use Rattle.program_grammar.proofs.Verdicts as grammar
-use Rattle.tdcc_reader.specs.Limits.{most_declared_cells}
+use Rattle.agent_core.specs.Limits.{most_declared_cells}
 use Rattle.tdcc_reader.specs.declared.dialect.Dialect.{Dialect}
 use Rattle.tdcc_reader.specs.declared.fault.ReadFault.{ReadFault}
 use Rattle.tdcc_reader.specs.declared.fault.ReadFault.TheVariants.{TextTooLong, Lex, LongName, LongNumber, Later, Syntax, TooDeep, TooManyTokens, DoubleName, EmptyDomain, UnknownName, WrongKind, TooManyDeclared, Memory}

@@ -3,7 +3,7 @@ use Rattle.std.specs.Prelude.{◌≡◌, ◌≤◌, ℕ, List, [], length, None}
 use Rattle.program_grammar.specs.Phrases.{ProgramPhrase}
 use Rattle.program_grammar.specs.Spelling.{program}
 use Rattle.program_lexemes.specs.Limits.{longest_core_text}
-use Rattle.tdcc_reader.specs.Limits.{most_declared_cells}
+use Rattle.agent_core.specs.Limits.{most_declared_cells}
 use Rattle.tdcc_reader.specs.declared.dialect.Dialect.{Dialect}
 use Rattle.tdcc_reader.specs.LimitFaults.{program_limit}
 use Rattle.tdcc_reader.specs.Scope.{program_fault}

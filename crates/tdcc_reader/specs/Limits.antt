@@ -16,7 +16,3 @@ most_written_tokens = 8
 -- the most tokens of a constraint, where a written x=n is two
 abbrev pub most_constraint_tokens : ℕ
 most_constraint_tokens = 16
-
--- the most cells that a program may declare
-abbrev pub most_declared_cells : ℕ
-most_declared_cells = 256

@@ -12,9 +12,9 @@ ghost use Rattle.tdcc_reader.specs.Surfaces.{cell_in_scope, cell_view, declared_
 ghost use Rattle.tdcc_reader.specs.TermViews.{term_view};
 ghost use Rattle.tdcc_reader.specs.declared.flat_form.FlatFormKind as FlatFormKind;
 
-use crate::insertions::Insertions;
 use crate::cells::{number_cell, signal_cell};
 use crate::flat_form::{FlatForm, FlatFormKind};
+use crate::insertions::Insertions;
 use crate::scope::Scope;
 use crate::terms::{Term, term_at};
 use agent_core::{CellDecl, Name};
@@ -210,7 +210,12 @@ impl<'a> Builder<'a> {
         self.put(alloc, FlatFormKind::New(cell))
     }
 
-    fn match_name(&mut self, alloc: Global, part: StackSymbol, name: &'a [u8]) -> Result<(), AllocError>
+    fn match_name(
+        &mut self,
+        alloc: Global,
+        part: StackSymbol,
+        name: &'a [u8],
+    ) -> Result<(), AllocError>
         ensures { OnOk result (built_view self.new ≡ builds_name part name.now (built_view self.old)) }
     {
         match part {
@@ -238,7 +243,12 @@ impl<'a> Builder<'a> {
         Ok(())
     }
 
-    fn match_number(&mut self, alloc: Global, part: StackSymbol, number: i64) -> Result<(), AllocError>
+    fn match_number(
+        &mut self,
+        alloc: Global,
+        part: StackSymbol,
+        number: i64,
+    ) -> Result<(), AllocError>
         ensures { OnOk result (built_view self.new ≡ builds_number part number (built_view self.old)) }
     {
         match part {

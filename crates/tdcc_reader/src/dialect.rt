@@ -17,9 +17,6 @@ pub const MOST_WRITTEN_TOKENS: usize = 8;
 /// The most tokens of a constraint, where a written `x=n` is two.
 pub const MOST_CONSTRAINT_TOKENS: usize = 16;
 
-/// The most cells that a program may declare.
-pub const MOST_DECLARED_CELLS: usize = 256;
-
 /// What a text is written in.
 #[derive(Clone, Copy, Debug, PartialEq, Eq)]
 pub enum Dialect {

@@ -38,7 +38,7 @@ pub enum ReadFault {
     UnknownName { lexeme: u32 },
     /// This name of a number stands alone or behind `!`, or this name of a signal has a bound.
     WrongKind { lexeme: u32 },
-    /// More than [`crate::MOST_DECLARED_CELLS`] cells are declared.
+    /// More than [`agent_core::MAX_DECLARED`] cells are declared.
     TooManyDeclared,
     /// The program has more than 4,096 nodes.
     TooManyNodes,

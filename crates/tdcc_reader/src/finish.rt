@@ -9,8 +9,8 @@ ghost use Rattle.tdcc_reader.specs.declared.dialect.Dialect.{Dialect};
 ghost use Rattle.tdcc_reader.specs.declared.fault.ReadFault as ReadFault;
 
 use crate::build::Builder;
-use crate::flat_form::forms;
 use crate::fault::ReadFault;
+use crate::flat_form::forms;
 use crate::surface::Parts;
 use std::alloc::Global;
 

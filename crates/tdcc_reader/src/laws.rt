@@ -5,8 +5,7 @@ ghost use Rattle.tdcc_reader.specs.Laws.{AcceptedIsNotRefused, HasOneRefusal, Ha
 ghost use Rattle.tdcc_reader.specs.Limits as limits;
 
 use crate::dialect::{
-    GREATEST_CORE_DEPTH, GREATEST_DEPTH, MOST_CONSTRAINT_TOKENS, MOST_DECLARED_CELLS,
-    MOST_WRITTEN_TOKENS,
+    GREATEST_CORE_DEPTH, GREATEST_DEPTH, MOST_CONSTRAINT_TOKENS, MOST_WRITTEN_TOKENS,
 };
 
 /// Out of memory aside, each text of a dialect is accepted, with its surface, or it has exactly one refusal, and never
@@ -23,5 +22,4 @@ pub fn limits_law()
     ensures core_depth { GREATEST_CORE_DEPTH ≡ limits.greatest_core_depth }
     ensures written_tokens { MOST_WRITTEN_TOKENS ≡ limits.most_written_tokens }
     ensures constraint_tokens { MOST_CONSTRAINT_TOKENS ≡ limits.most_constraint_tokens }
-    ensures declared_cells { MOST_DECLARED_CELLS ≡ limits.most_declared_cells }
 {}

@@ -2,13 +2,13 @@
 //! refusal.
 #![tactic(auto)]
 
-mod insertions;
 mod build;
 mod cells;
 mod dialect;
-mod flat_form;
 mod fault;
 mod finish;
+mod flat_form;
+mod insertions;
 mod laws;
 mod lexing;
 mod limits;
@@ -22,8 +22,7 @@ mod terms;
 mod tests;
 
 pub use dialect::{
-    Dialect, GREATEST_CORE_DEPTH, GREATEST_DEPTH, MOST_CONSTRAINT_TOKENS, MOST_DECLARED_CELLS,
-    MOST_WRITTEN_TOKENS,
+    Dialect, GREATEST_CORE_DEPTH, GREATEST_DEPTH, MOST_CONSTRAINT_TOKENS, MOST_WRITTEN_TOKENS,
 };
 pub use fault::ReadFault;
 pub use laws::{limits_law, refusal_law};

@@ -166,14 +166,23 @@ impl<'a> Naming<'a> {
         self.scope.leave();
     }
 
-    fn match_name(&mut self, lexeme: u32, part: StackSymbol, name: &'a [u8]) -> Result<(), AllocError>
+    fn match_name(
+        &mut self,
+        lexeme: u32,
+        part: StackSymbol,
+        name: &'a [u8],
+    ) -> Result<(), AllocError>
         ensures { OnOk result (names_view self.new ≡ resolves_name lexeme part name.now (names_view self.old)) }
     {
         match part {
             StackSymbol::OneUnit | StackSymbol::OneToken => self.use_name(lexeme, name),
             StackSymbol::DeniedName => self.deny_name(lexeme, name),
             StackSymbol::ClashingName => self.clash_name(lexeme, name),
-            StackSymbol::DeclaredName | StackSymbol::LocalName => self.declare(Kind::Signal, lexeme, name)?,
+            StackSymbol::DeclaredName | StackSymbol::LocalName => self.declare(
+                Kind::Signal,
+                lexeme,
+                name,
+            )?,
             StackSymbol::DeclaredIntName | StackSymbol::LocalIntName => {
                 self.declare(Kind::Number, lexeme, name)?;
             }

@@ -7,7 +7,7 @@ ghost use Rattle.tdcc_reader.specs.Builds.{IsChecked};
 ghost use Rattle.tdcc_reader.specs.Refusals.{Accepts, IsProgramOf, Refuses, RefusesTerms};
 ghost use Rattle.program_lexemes.specs.Limits.{longest_core_text};
 ghost use Rattle.tdcc_reader.specs.LimitFaults.{program_limit};
-ghost use Rattle.tdcc_reader.specs.Limits.{most_declared_cells};
+ghost use Rattle.agent_core.specs.Limits.{most_declared_cells};
 ghost use Rattle.tdcc_reader.specs.Parts.{surface_of};
 ghost use Rattle.tdcc_reader.specs.Scope.{program_fault};
 ghost use Rattle.tdcc_reader.specs.Surfaces.{IsSurfaceOf, declared_cells};
@@ -16,7 +16,7 @@ ghost use Rattle.tdcc_reader.specs.declared.fault.ReadFault as ReadFault;
 ghost use Rattle.tdcc_reader.specs.Texts.{ReadsAs};
 
 use crate::build::{Builder, build};
-use crate::dialect::{Dialect, MOST_DECLARED_CELLS};
+use crate::dialect::Dialect;
 use crate::fault::ReadFault;
 use crate::finish::finish;
 use crate::lexing::read_terms;
@@ -25,6 +25,7 @@ use crate::naming::check_names;
 use crate::parsing::read_steps;
 use crate::surface::{Parts, Surface};
 use crate::terms::Term;
+use agent_core::MAX_DECLARED;
 use program_grammar::Step;
 use std::alloc::Global;
 
@@ -47,7 +48,7 @@ fn build_checked<'a>(
     check_limits(dialect, terms, steps)?;
     check_names(alloc, terms, steps)?;
     let built = build(alloc, terms, steps)?;
-    if built.declared > MOST_DECLARED_CELLS {
+    if built.declared > MAX_DECLARED {
         return Err(ReadFault::TooManyDeclared);
     }
     Ok(built)

@@ -8,8 +8,8 @@ ghost use Rattle.program_lexemes.specs.declared.bytes.TextForm.{TextForm};
 ghost use Rattle.tdcc_reader.specs.LexemeTerms.{keyword_term, term_of_lexeme, symbol_term, terms_of, too_long};
 ghost use Rattle.tdcc_reader.specs.TermViews.{term_view};
 
-use program_grammar::Word;
 use names_and_numbers::number_value;
+use program_grammar::Word;
 use program_lexemes::{
     Keyword, LexKind, Lexeme, Symbol, is_long, keyword_of, kinds_law, lexeme_bytes, symbol_of,
 };

@@ -1,4 +1,4 @@
--- A generated run goes to its end: its text is a program, each line of its trace gives an input, and it stays below the usual limits.
+-- A generated run goes to its end: its text is a program, each line of its trace gives an input, and it stays below the default limits.
 use Rattle.std.proofs.Common.{◌≡◌, ℕ, ◌*◌, ◌≤◌, List, [], ◌∷◌, ◌++◌, length, take, sym, subst, arith}
 use Rattle.std.specs.Prelude.{All, String}
 use Rattle.std.specs.List.{sum_by}
@@ -33,7 +33,7 @@ use Rattle.tdcc_tool.specs.declared.output.OutputMode.TheVariants.{Summary}
 use Rattle.tdcc_tool.specs.Accepted.{IsAccepted}
 use Rattle.tdcc_tool.specs.Answers.{GiveInputs, KeepsLimits, AnswersBy, WordsCall}
 use Rattle.tdcc_tool.specs.Completeness.{RunsThrough, EndsWhole}
-use Rattle.tdcc_tool.specs.Tasks.{usual_limits, IsGenerated}
+use Rattle.tdcc_tool.specs.Tasks.{default_limits, IsGenerated}
 use Rattle.tdcc_tool.specs.RunTexts.{each_after, ran_after}
 use Rattle.tdcc_tool.proofs.OneAnswer.{one_command}
 use Rattle.tdcc_tool.proofs.RunSteps.{given_long}
@@ -86,15 +86,15 @@ module _ (n : ℕ) where
         let sum = sum_by-cons (λ (k : ℕ). k) (ran_after p past v) (each_after (ran_after p) (past ++ v ∷ []) outs) in
         omega arith
 
-    -- so as many instants as a run may have stay below the usual limits
-    within_usual : (outs : List StoreMap) → length outs ≤ 65536 → KeepsLimits p usual_limits outs
-    within_usual outs most = record {
+    -- so as many instants as a run may have stay below the default limits
+    within_default : (outs : List StoreMap) → length outs ≤ 65536 → KeepsLimits p default_limits outs
+    within_default outs most = record {
       net = λ m lt. let low = small n p is in let nodes = low.few_nodes in let leaves = few n p (take m outs) is in omega arith;
       fuel = let ran = few_spent [] outs in omega arith;
     }
 
-  -- What is generated goes through within the usual limits.
-  pub generated_through : n ≤ 65536 → RunsThrough usual_limits (input_bytes n)
+  -- What is generated goes through within the default limits.
+  pub generated_through : n ≤ 65536 → RunsThrough default_limits (input_bytes n)
   generated_through most =
       let (p, is) = some_expansion (surface n) (surface_formed (surface n) (program_text_of (input_bytes n), text_reads)) in
       let low = small n p is in
@@ -112,14 +112,14 @@ module _ (n : ℕ) where
         given = subst (λ (lines : List (List ℕ)). GiveInputs p lines ins) (sym parts.lines) given;
         outputs = outs;
         run = run;
-        within = within_usual p is outs (omega arith);
+        within = within_default p is outs (omega arith);
       }
 
 -- THE CALL
 
 -- the answer to the words of a generated run is its end, whatever the bytes of the source
 made_whole : (command : Command) (words : List (String Global)) (bytes : List ℕ) (s : Status) (o e : List ℕ) → WordsCall command words → IsGenerated command → AnswersBy command bytes s o e → s ≡ statuses.Ok
-made_whole (commands.Generate n) words bytes s o e is made answer = whole_status (input_bytes n) Summary usual_limits (generated_through n is.allowed.1) s o e answer
+made_whole (commands.Generate n) words bytes s o e is made answer = whole_status (input_bytes n) Summary default_limits (generated_through n is.allowed.1) s o e answer
 made_whole (commands.Run limits) words bytes s o e is made answer = absurd made
 made_whole (commands.Report limits) words bytes s o e is made answer = absurd made
 made_whole commands.Check words bytes s o e is made answer = absurd made

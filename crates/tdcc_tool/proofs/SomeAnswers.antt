@@ -31,7 +31,7 @@ use Rattle.tdcc_tool.specs.Accepted.{IsTextOf}
 use Rattle.tdcc_tool.specs.Answers.{CaseAnswer, ProgramAnswer, AnswersOf, AnswersTo, WordsCall, WordsCallNothing}
 use Rattle.tdcc_tool.specs.Checks.{CheckAnswer}
 use Rattle.tdcc_tool.specs.Laws.{HaveAnswer}
-use Rattle.tdcc_tool.specs.Tasks.{task_of, usual_limits}
+use Rattle.tdcc_tool.specs.Tasks.{task_of, default_limits}
 use Rattle.tdcc_tool.specs.TextFaults.{HasFault, misread, many_nodes, many_cells}
 use Rattle.tdcc_tool.proofs.AcceptedPrograms.{built_program}
 use Rattle.tdcc_tool.proofs.GeneratedRuns.{generated_through}
@@ -132,7 +132,7 @@ generated_answer words bytes n is =
     let r = generated_through n is.allowed.1 in
     let built = r.accepted.built in
     let p = r.program in
-    let (s, o, e, answer) = some_run p (built_program _ p built) r.accepted.table r.accepted.stratified Summary usual_limits _ in
+    let (s, o, e, answer) = some_run p (built_program _ p built) r.accepted.table r.accepted.stratified Summary default_limits _ in
     (s, o, e, inl (commands.Generate n, is, inr (p, built, inr (r.accepted.table, r.accepted.stratified, answer))))
 
 -- words and bytes have an answer

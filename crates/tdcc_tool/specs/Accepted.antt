@@ -2,6 +2,7 @@
 use Rattle.std.specs.Prelude.{ℕ, ◌≤◌, List, length}
 use Rattle.agent_core.specs.Programs.{CoreProgram}
 use Rattle.agent_core.specs.Strata.{Stratifies}
+use Rattle.agent_core.specs.Limits.{most_cells, most_nodes}
 use Rattle.tdcc_reader.specs.Surfaces.{SurfaceProgram}
 use Rattle.tdcc_reader.specs.declared.dialect.Dialect.TheVariants.{Program}
 use Rattle.tdcc_reader.specs.Texts.{ReadsAs}
@@ -10,8 +11,8 @@ use Rattle.expansion_laws.specs.Expansions.{IsExpansion}
 -- the program is that of the surface, and is within the limits
 pub record IsExpandedTo (s : SurfaceProgram) (p : CoreProgram) : Type 0 where
   pub expansion : IsExpansion s p
-  pub few_nodes : length p.nodes ≤ 4096
-  pub few_cells : length p.cells ≤ 1024
+  pub few_nodes : length p.nodes ≤ most_nodes
+  pub few_cells : length p.cells ≤ most_cells
 
 -- the text is this program's, which is within the limits
 pub record IsTextOf (text : List ℕ) (p : CoreProgram) : Type 0 where

@@ -12,6 +12,7 @@ use Rattle.token_system.specs.Stores.{StoreMap}
 use Rattle.agent_core.specs.Programs.{CoreProgram}
 use Rattle.agent_core.specs.Outputs.{IsRun}
 use Rattle.agent_core.specs.Strata.{Stratifies}
+use Rattle.agent_core.specs.Limits.{most_instants}
 use Rattle.core_text.specs.CoreTexts.{core_text}
 use Rattle.tdcc_reader.specs.declared.fault.ReadFault.{ReadFault}
 use Rattle.trace_text.specs.Inputs.{GivesInput}
@@ -44,7 +45,7 @@ pub record KeepsLimits (p : CoreProgram) (limits : Limits) (outs : List StoreMap
 pub record RunAnswer (p : CoreProgram) (mode : OutputMode) (limits : Limits) (lines : List (List ℕ)) (status : Status) (out err : List ℕ) : Type 0 where
   pub ins : List StoreMap
   pub outs : List StoreMap
-  pub few : length ins ≤ 65536
+  pub few : length ins ≤ most_instants
   pub given : GiveInputs p (take (length ins) lines) ins
   pub run : IsRun p ins outs
   pub within : KeepsLimits p limits outs

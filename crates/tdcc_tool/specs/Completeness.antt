@@ -10,6 +10,7 @@ use Rattle.agent_core.specs.Programs.{CoreProgram}
 use Rattle.agent_core.specs.Outputs.{IsRun}
 use Rattle.command_words.specs.declared.command.Command.TheVariants.{Run, Report}
 use Rattle.command_words.specs.declared.settings.Limits.{Limits}
+use Rattle.agent_core.specs.Limits.{most_instants}
 use Rattle.tdcc_tool.specs.Accepted.{IsAccepted}
 use Rattle.tdcc_tool.specs.Answers.{GiveInputs, KeepsLimits, WordsCall}
 
@@ -22,7 +23,7 @@ pub record RunsThrough (limits : Limits) (bytes : List ℕ) : Type 0 where
   pub program : CoreProgram
   pub accepted : IsAccepted (program_text_of bytes) program
   pub inputs : List StoreMap
-  pub few : length inputs ≤ 65536
+  pub few : length inputs ≤ most_instants
   pub given : GiveInputs program (lines_of (trace_of bytes)) inputs
   pub outputs : List StoreMap
   pub run : IsRun program inputs outputs

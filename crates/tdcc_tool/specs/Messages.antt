@@ -3,7 +3,7 @@ use Rattle.std.specs.Prelude.{ℕ, List, [], ◌∷◌, ◌++◌, codes, decimal
 use Rattle.agent_core.specs.declared.node.CellDecl.{CellDecl}
 use Rattle.agent_core.specs.Programs.{CoreProgram}
 use Rattle.tdcc_reader.specs.declared.fault.ReadFault.{ReadFault}
-use Rattle.tdcc_reader.specs.declared.fault.ReadFault.TheVariants as reading
+use Rattle.tdcc_reader.specs.Messages.{fault_message}
 use Rattle.trace_text.specs.declared.fault.LineFault.{LineFault}
 use Rattle.trace_text.specs.declared.fault.LineFault.TheVariants.{BadToken, UnknownName, WrongKind, LineTooLong, Memory}
 
@@ -15,28 +15,9 @@ message text = codes "tdcc: " ++ text ++ 10 ∷ []
 abbrev pub usage_line : List ℕ
 usage_line = message (codes "usage")
 
--- what is said of the fault of a program text; of out of memory nothing is said
-abbrev pub program_fault_text : ReadFault → List ℕ
-program_fault_text reading.TextTooLong = codes "text over 65536 bytes"
-program_fault_text (reading.Lex offset) = codes "bad byte at offset " ++ decimal offset
-program_fault_text (reading.LongName lexeme) = codes "long name at lexeme " ++ decimal lexeme
-program_fault_text (reading.LongNumber lexeme) = codes "long number at lexeme " ++ decimal lexeme
-program_fault_text (reading.Later lexeme) = codes "not built yet at lexeme " ++ decimal lexeme
-program_fault_text (reading.Syntax lexeme) = codes "syntax at lexeme " ++ decimal lexeme
-program_fault_text (reading.TooDeep lexeme) = codes "too deep at lexeme " ++ decimal lexeme
-program_fault_text (reading.TooManyTokens lexeme) = codes "too many tokens at lexeme " ++ decimal lexeme
-program_fault_text (reading.DoubleName lexeme) = codes "double name at lexeme " ++ decimal lexeme
-program_fault_text (reading.EmptyDomain lexeme) = codes "empty domain at lexeme " ++ decimal lexeme
-program_fault_text (reading.UnknownName lexeme) = codes "unknown name at lexeme " ++ decimal lexeme
-program_fault_text (reading.WrongKind lexeme) = codes "wrong kind at lexeme " ++ decimal lexeme
-program_fault_text reading.TooManyDeclared = codes "over 256 declared cells"
-program_fault_text reading.TooManyNodes = codes "over 4096 nodes"
-program_fault_text reading.TooManyCells = codes "over 1024 cells"
-program_fault_text reading.Memory = []
-
 -- the program text has the fault
 abbrev pub program_line : ReadFault → List ℕ
-program_line fault = message (codes "program: " ++ program_fault_text fault)
+program_line fault = message (codes "program: " ++ fault_message fault)
 
 -- the name of a cell
 abbrev pub cell_name : Option CellDecl → List ℕ

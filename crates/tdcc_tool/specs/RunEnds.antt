@@ -8,6 +8,8 @@ use Rattle.agent_core.specs.Programs.{CoreProgram}
 use Rattle.agent_core.specs.Closures.{roots}
 use Rattle.agent_core.specs.Leaves.{leaves}
 use Rattle.agent_core.specs.Outputs.{IsOutput}
+use Rattle.agent_core.specs.Limits.{most_instants}
+use Rattle.tdcc_base.specs.Limits.{longest_line}
 use Rattle.trace_text.specs.declared.fault.LineFault.{LineFault}
 use Rattle.trace_text.specs.declared.fault.LineFault.TheVariants as faults
 use Rattle.trace_text.specs.Inputs.{GivesInput}
@@ -25,12 +27,12 @@ leaf_count_after p outs = length (leaves p (roots p outs) (length outs))
 pub record IsBadLine (p : CoreProgram) (n : ℕ) (line : List ℕ) (fault : LineFault) : Type 0 where
   pub refused : RefusesLine p line fault
   pub says : fault ≢ faults.Memory
-  pub due : (n < 65536) ⊎ (fault ≡ faults.LineTooLong)
+  pub due : (n < most_instants) ⊎ (fault ≡ faults.LineTooLong)
 
 -- the line gives the input of instant n
 pub record IsDue (p : CoreProgram) (n : ℕ) (line : List ℕ) (input : StoreMap) : Type 0 where
   pub given : GivesInput p line input
-  pub few : n < 65536
+  pub few : n < most_instants
 
 -- the instant that follows these outputs has this many leaves, which is too many
 pub record IsOverNet (p : CoreProgram) (limits : Limits) (outs : List StoreMap) (count : ℕ) : Type 0 where
@@ -49,7 +51,7 @@ pub record IsOverFuel (p : CoreProgram) (limits : Limits) (outs : List StoreMap)
 abbrev pub EndsAt : CoreProgram → Limits → List StoreMap → List ℕ → RunEnd → Type 0
 EndsAt p limits outs line ends.Completed = ⊥
 EndsAt p limits outs line (ends.BadLine fault) = IsBadLine p (length outs) line fault
-EndsAt p limits outs line ends.TooManyLines = (length line ≤ 32768) × (length outs ≡ 65536)
+EndsAt p limits outs line ends.TooManyLines = (length line ≤ longest_line) × (length outs ≡ most_instants)
 EndsAt p limits outs line (ends.NetFull count) = (input : StoreMap) × IsDue p (length outs) line input × IsOverNet p limits outs count
 EndsAt p limits outs line (ends.FuelSpent count) = (input : StoreMap) × IsDue p (length outs) line input × IsOverFuel p limits outs input count
 

@@ -3,6 +3,8 @@ use Rattle.std.specs.Prelude.{◌≡◌, ◌≢◌, ℕ, ◌<◌, ◌≤◌, Lis
 use Rattle.token_system.specs.Stores.{StoreMap}
 use Rattle.agent_core.specs.Closures.{roots}
 use Rattle.agent_core.specs.Leaves.{leaves}
+use Rattle.agent_core.specs.Limits.{most_instants}
+use Rattle.tdcc_base.specs.Limits.{longest_line}
 use Rattle.instant_net.specs.Nets.{Flat}
 use Rattle.instant_net.specs.Opened.{IsNetOf}
 use Rattle.residuals.specs.RootLists.{listed_roots}
@@ -41,7 +43,7 @@ pub record ClosesInstant (before after : RunState) (input : StoreMap) : Type 0 w
 
 -- the line gives the input of an instant, which is closed
 pub record AdvancesRun (before after : RunState) (line : List ℕ) : Type 0 where
-  pub few : length before.book.ins < 65536
+  pub few : length before.book.ins < most_instants
   pub input : StoreMap
   pub given : GivesInput before.book.program line input
   pub closes : ClosesInstant before after input
@@ -53,6 +55,6 @@ IsNotOutOfMemory _ = Unit {0}
 
 -- the run ends so at a line of at most 32,768 bytes, whatever outputs it has had, and its state stays as it was
 pub record StopsRun (before after : RunState) (line : List ℕ) (end : RunEnd) : Type 0 where
-  pub at : length line ≤ 32768 → (full : List StoreMap) → IsStateOf before full → EndsAt before.book.program before.limits full line end
+  pub at : length line ≤ longest_line → (full : List StoreMap) → IsStateOf before full → EndsAt before.book.program before.limits full line end
   pub same : after ≡ before
   pub says : IsNotOutOfMemory end

@@ -9,6 +9,7 @@ ghost use Rattle.instant_net.specs.Words.{store_in, AreWords};
 ghost use Rattle.residuals.specs.RootLists.{listed_roots};
 ghost use Rattle.run_book.specs.Books.{KeepsRun};
 ghost use Rattle.tdcc_tool.specs.Steps.{count_now};
+ghost use Rattle.command_words.specs.Limits.{greatest_net};
 
 use agent_laws::{by_roots_law, one_output_law};
 use instant_net::{
@@ -28,7 +29,7 @@ pub fn output_of(
     limit: u32,
 ) -> Result<(Net, Words), NetFault>
     requires input { IsInput book.now.program input.now }
-    requires limit { limit ≤ 65536 }
+    requires limit { limit ≤ greatest_net }
     ensures net { IfOk result (λ found. IsNetOf book.now.program book.now.levels (listed_roots book.now.roots) (length book.now.ins) found.0) }
     ensures words { IfOk result (λ found. AreWords found.0.cells found.1) }
     ensures output { IfOk result (λ found. IsNetOutput found.0 input.now (store_in found.0.cells found.1)) }

@@ -1,4 +1,10 @@
-ghost use Rattle.std.specs.Prelude.{List, ℕ};
+ghost use Rattle.std.specs.Prelude.{◌≡◌, List, ℕ};
+ghost use Rattle.tdcc_base.specs.Limits.{longest_line, longest_text};
+ghost use Rattle.program_lexemes.specs.Limits.{longest_program_text};
+ghost use Rattle.agent_core.specs.Limits.{most_instants};
+ghost use Rattle.instant_net.specs.Limits.{most_leaves};
+ghost use Rattle.trace_text.specs.Limits.{longest_trace_line};
+ghost use Rattle.command_words.specs.Limits.{greatest_net, most_generated_lines};
 ghost use Rattle.tdcc_tool.specs.Answers.{HaveOneAnswer};
 ghost use Rattle.tdcc_tool.specs.Laws.{AcceptedHaveOneOutput, AcceptedHaveOneRun, DifferInWorkers, HaveAnswer, HaveSameAnswers};
 
@@ -30,3 +36,11 @@ pub fn output_law(text: &[u8])
 {
     let _ = text.len();
 }
+
+/// Limits that crates below state each for itself, since neither stands on the other, are the same.
+pub fn shared_limits_law()
+    ensures text { longest_text ≡ longest_program_text }
+    ensures line { longest_line ≡ longest_trace_line }
+    ensures net { greatest_net ≡ most_leaves }
+    ensures lines { most_generated_lines ≡ most_instants }
+{}

@@ -21,5 +21,5 @@ mod top;
 mod trace;
 
 pub use core_reading::core_law;
-pub use laws::{answer_law, output_law, workers_law};
+pub use laws::{answer_law, output_law, shared_limits_law, workers_law};
 pub use top::tdcc;

@@ -13,41 +13,12 @@ use tdcc_reader::ReadFault;
 use token_system::Memory;
 use trace_text::LineFault;
 
-/// What is said of the fault of a program text.
-fn program_fault_text(alloc: Global, fault: ReadFault) -> Result<String, Memory>
-    requires { fault ≢ NoReading }
-    ensures { IfOk result (λ text. string_bytes text ≡ messages.program_fault_text fault) }
-{
-    let text = match fault {
-        ReadFault::TextTooLong => format!(in alloc; "text over 65536 bytes")?,
-        ReadFault::Lex { offset } => format!(in alloc; "bad byte at offset {offset}")?,
-        ReadFault::LongName { lexeme } => format!(in alloc; "long name at lexeme {lexeme}")?,
-        ReadFault::LongNumber { lexeme } => format!(in alloc; "long number at lexeme {lexeme}")?,
-        ReadFault::Later { lexeme } => format!(in alloc; "not built yet at lexeme {lexeme}")?,
-        ReadFault::Syntax { lexeme } => format!(in alloc; "syntax at lexeme {lexeme}")?,
-        ReadFault::TooDeep { lexeme } => format!(in alloc; "too deep at lexeme {lexeme}")?,
-        ReadFault::TooManyTokens { lexeme } => {
-            format!(in alloc; "too many tokens at lexeme {lexeme}")?
-        }
-        ReadFault::DoubleName { lexeme } => format!(in alloc; "double name at lexeme {lexeme}")?,
-        ReadFault::EmptyDomain { lexeme } => format!(in alloc; "empty domain at lexeme {lexeme}")?,
-        ReadFault::UnknownName { lexeme } => format!(in alloc; "unknown name at lexeme {lexeme}")?,
-        ReadFault::WrongKind { lexeme } => format!(in alloc; "wrong kind at lexeme {lexeme}")?,
-        ReadFault::TooManyDeclared => format!(in alloc; "over 256 declared cells")?,
-        ReadFault::TooManyNodes => format!(in alloc; "over 4096 nodes")?,
-        ReadFault::TooManyCells => format!(in alloc; "over 1024 cells")?,
-        ReadFault::Memory => unreachable!(),
-    };
-    Ok(text)
-}
-
 /// The line of a program text that has this fault.
 pub fn program_line(alloc: Global, fault: ReadFault) -> Result<Vec<u8>, Memory>
     requires { fault ≢ NoReading }
     ensures { IfOk result (λ line. line.items ≡ messages.program_line fault) }
 {
-    let reason = program_fault_text(alloc, fault)?;
-    let line = format!(in alloc; "tdcc: program: {reason}\n")?;
+    let line = format!(in alloc; "tdcc: program: {fault}\n")?;
     Ok(line.as_bytes().to_vec(alloc)?)
 }
 

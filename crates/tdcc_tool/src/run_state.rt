@@ -1,5 +1,7 @@
 //! The state of a run: how it begins, goes on by an instant, and is written.
 ghost use Rattle.std.specs.Prelude.{◌<◌, ◌≤◌};
+ghost use Rattle.command_words.specs.Limits.{greatest_net};
+ghost use Rattle.agent_core.specs.Limits.{most_instants};
 
 use crate::instant::output_of;
 use crate::output::{OutputMode, write_line};
@@ -21,7 +23,7 @@ pub struct RunState {
     pub book: Book,
     pub spent: u64,
     pub lines: Vec<u8>,
-    ghost within: { (spent ≤ limits.fuel) × (limits.fuel < 4294967296) × (limits.net ≤ 65536) },
+    ghost within: { (spent ≤ limits.fuel) × (limits.fuel < 4294967296) × (limits.net ≤ greatest_net) },
 }
 
 impl RunState {
@@ -42,7 +44,7 @@ impl RunState {
         limits: Limits,
     ) -> Result<RunState, Memory>
         requires stratified { Stratifies program levels }
-        requires net { limits.net ≤ 65536 }
+        requires net { limits.net ≤ greatest_net }
         ensures follows { IfOk result (λ c. IsStateOf c []) }
         ensures program { IfOk result (λ c. c.book.program ≡ program) }
         ensures ins { IfOk result (λ c. c.book.ins ≡ []) }
@@ -60,7 +62,7 @@ impl RunState {
 
     /// Runs the next instant on this input, or says how the run ends at it.
     pub fn run_instant(&mut self, alloc: Global, input: Store) -> Result<Option<RunEnd>, Memory>
-        requires room { length self.old.book.ins < 65536 }
+        requires room { length self.old.book.ins < most_instants }
         requires input { IsInput self.old.book.program input }
         ensures { IfOk result (λ end. (line : List ℕ) → GivesInput self.old.book.program line input
             → MatchOption end (AdvancesRun self.old self.new line) (StopsRun self.old self.new line)) }

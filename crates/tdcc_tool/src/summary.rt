@@ -5,6 +5,7 @@ ghost use Rattle.token_system.specs.Stores.{StoreMap};
 ghost use Rattle.run_book.specs.Books.{KeepsRun};
 ghost use Rattle.tdcc_tool.specs.RunTexts as texts;
 ghost use Rattle.tdcc_tool.specs.RunTexts.{is_told, summary_line, told_cells};
+ghost use Rattle.agent_core.specs.Limits.{most_instants};
 
 use crate::output::write_count;
 use run_book::Book;
@@ -28,7 +29,7 @@ fn told_of(store: &Store, declared: u32) -> u64
 
 /// How many declared cells the stores tell something of, all together.
 fn told_in_all(declared: u32, stores: &[Store]) -> u64
-    requires { length stores.now ≤ 65536 }
+    requires { length stores.now ≤ most_instants }
     ensures { result ≡ sum_by (λ v. length (filter (is_told v) (range_with_len 0 declared))) stores.now }
 {
     let mut told = 0;

@@ -3,12 +3,12 @@ ghost use Rattle.std.specs.Prelude.{◌≡◌};
 ghost use Rattle.tdcc_tool.specs.Tasks as tasks;
 
 use crate::output::OutputMode;
-use command_words::{Command, Limits};
+use command_words::{Command, DEFAULT_FUEL, DEFAULT_NET, Limits};
 
 /// The limits of a generated run.
-const USUAL_LIMITS: Limits = Limits {
-    fuel: 100_000_000,
-    net: 65_536,
+const DEFAULT_LIMITS: Limits = Limits {
+    fuel: DEFAULT_FUEL,
+    net: DEFAULT_NET,
 };
 
 /// What is to be done with a program text, and the trace behind it.
@@ -31,6 +31,6 @@ pub fn task_of(command: Command) -> Task
         Command::Report(limits) => Task::Run(OutputMode::Reports, limits),
         Command::Check => Task::Check,
         Command::Core => Task::Core,
-        Command::Generate(_) => Task::Run(OutputMode::Summary, USUAL_LIMITS),
+        Command::Generate(_) => Task::Run(OutputMode::Summary, DEFAULT_LIMITS),
     }
 }

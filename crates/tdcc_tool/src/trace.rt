@@ -9,12 +9,13 @@ ghost use Rattle.agent_core.specs.Strata.{Stratifies};
 ghost use Rattle.tdcc_tool.specs.Answers.{ProgramAnswer, RunAnswer};
 ghost use Rattle.tdcc_tool.specs.Statuses.{IsCommandEnd};
 ghost use Rattle.tdcc_tool.specs.Steps.{StopsRun, IsStateOf, AdvancesRun};
+ghost use Rattle.command_words.specs.Limits.{greatest_net};
 
 use crate::answer::{Answer, Stop, finish, refused_case};
 use crate::output::OutputMode;
 use crate::run_end::RunEnd;
 use crate::run_state::RunState;
-use agent_core::{Levels, Program};
+use agent_core::{Levels, MAX_INSTANTS, Program};
 use command_words::Limits;
 use std::alloc::{AllocError, Global};
 use strata::{StrataFault, strata};
@@ -22,14 +23,11 @@ use tdcc_base::{LineEnd, Lines, ReadStop, Source, Status};
 use token_system::Memory;
 use trace_text::{LineFault, read_input};
 
-/// How many instants a run has at most.
-const INSTANTS: u32 = 65_536;
-
 /// Runs the instant of one line, or says how the run ends at it.
 fn run_line(alloc: Global, state: &mut RunState, line: &[u8]) -> Result<Option<RunEnd>, Memory>
     ensures { IfOk result (λ end. MatchOption end (AdvancesRun state.old state.new line.now) (StopsRun state.old state.new line.now)) }
 {
-    if state.book.instants() == INSTANTS {
+    if state.book.instants() == MAX_INSTANTS {
         return Ok(Some(RunEnd::TooManyLines));
     }
     match read_input(alloc, state.book.program(), line) {
@@ -87,7 +85,7 @@ pub fn run_program<S: Source>(
     limits: Limits,
     lines: &mut Lines<'_, S>,
 ) -> Result<Answer, Stop>
-    requires net { limits.net ≤ 65536 }
+    requires net { limits.net ≤ greatest_net }
     requires ready { LinesReady S.left lines.old }
     requires limit { limit_of lines.old ≡ longest_line }
     requires going_on { IsNone (stop_of lines.old) }

@@ -17,7 +17,7 @@ use Rattle.token_system.specs.declared.cell.Token.{Token}
 use Rattle.token_system.specs.declared.cell.Token.TheVariants.{AtLeast, AtMost}
 use Rattle.names_and_numbers.specs.Limits.{most_digits}
 use Rattle.names_and_numbers.specs.Names.{is_digit, is_name}
-use Rattle.names_and_numbers.specs.Numbers.{are_digits, are_few_digits, digits_of, number_of, number_of_text}
+use Rattle.names_and_numbers.specs.Numbers.{are_digits, are_few_digits, digits_of, value_of_number, number_of_text}
 use Rattle.names_and_numbers.proofs.Bools.{and_left, both_true}
 use Rattle.names_and_numbers.proofs.Printed.{decimal_digits, no_minus, number_of-decimal, number_of-minus_decimal}
 use Rattle.token_system.specs.Texts.{text_of, written_of, alone, at_least, at_most, IsTail, IsTokenText, off, clash, plain}
@@ -34,8 +34,8 @@ digits_alone : (ds : List ℕ) → are_digits ds ≡ true → digits_of ds ≡ d
 digits_alone [] h = refl
 digits_alone (d ∷ ds) h = ap (λ t. if t then ds else d ∷ ds) (no_minus d (and_left (is_digit d) (list_all is_digit ds) h))
 
-read_number : (bytes : List ℕ) (k : ℤ) → are_few_digits (digits_of bytes) ≡ true → number_of bytes ≡ k → number_of_text bytes ≡ Some k
-read_number bytes k few e = ap (λ t. if t then Some (number_of bytes) else None) few ∙ ap Some e
+read_number : (bytes : List ℕ) (k : ℤ) → are_few_digits (digits_of bytes) ≡ true → value_of_number bytes ≡ k → number_of_text bytes ≡ Some k
+read_number bytes k few e = ap (λ t. if t then Some (value_of_number bytes) else None) few ∙ ap Some e
 
 pub number-signed_decimal : (k : ℤ) → IsTrue (is_bound k) → number_of_text (signed_decimal k) ≡ Some k
 number-signed_decimal (pos n) h =

@@ -11,7 +11,7 @@ use Rattle.token_system.specs.declared.cell.Token.{Token}
 use Rattle.token_system.specs.declared.reading.Written.{Written}
 use Rattle.names_and_numbers.specs.Limits.{longest_name, most_digits}
 use Rattle.names_and_numbers.specs.Names.{is_digit, is_word_byte, is_word, is_name}
-use Rattle.names_and_numbers.specs.Numbers.{is_minus, are_digits, are_few_digits, digits_of, number_of, number_of_text}
+use Rattle.names_and_numbers.specs.Numbers.{is_minus, are_digits, are_few_digits, digits_of, value_of_number, number_of_text}
 use Rattle.token_system.specs.Texts.{IsTail, alone, at_least, at_most, exactly, IsTokenText, off, clash, plain}
 use Rattle.token_system.proofs.Alike.{true_false}
 use Rattle.token_system.proofs.NameFronts.{name_bytes}
@@ -59,7 +59,7 @@ few_facts (b ∷ bytes) e = go (is_minus b) refl e
 number_facts : (bytes : List ℕ) (k : ℤ) → number_of_text bytes ≡ Some k → HasNoBlank bytes × (length bytes ≤ 10)
 number_facts bytes k e = go (are_few_digits (digits_of bytes)) refl e
   where
-    go : (t : Bool) → are_few_digits (digits_of bytes) ≡ t → (if t then Some (number_of bytes) else None) ≡ Some k → HasNoBlank bytes × (length bytes ≤ 10)
+    go : (t : Bool) → are_few_digits (digits_of bytes) ≡ t → (if t then Some (value_of_number bytes) else None) ≡ Some k → HasNoBlank bytes × (length bytes ≤ 10)
     go true is e = few_facts bytes is
     go false is e = absurd (cc)
 
