@@ -20,8 +20,8 @@ use Rattle.tdcc_reader.specs.Texts.{ReadsAs}
 use Rattle.tdcc_reader.proofs.Verdicts.{verdict}
 use Rattle.strata.proofs.Decided.{table_or_case, some_least}
 use Rattle.surface_laws.proofs.WellFormed.{surface_formed}
-use Rattle.expansion_laws.specs.Sketches.{Sketch, size, marks}
-use Rattle.expansion_laws.specs.Expansions.{IsSketchOf, IsProgramOf}
+use Rattle.expansion_laws.specs.SymbolicAgents.{SymbolicAgent, symbolic_size, binders}
+use Rattle.expansion_laws.specs.Expansions.{IsSymbolicOf, IsCoreOfSymbolic}
 use Rattle.expansion_laws.proofs.WholePrograms.{some_expansion, nodes_many, cells_many}
 use Rattle.tdcc_tool.specs.declared.task.Task.{Task}
 use Rattle.tdcc_tool.specs.declared.task.Task.TheVariants as tasks
@@ -44,9 +44,9 @@ use Rattle.tdcc_tool.proofs.SomeRuns.{split, some_run}
 abbrev IsDecided : List ℕ → Type 0
 IsDecided text = ((p : CoreProgram) × IsTextOf text p) ⊎ ((f : ReadFault) × HasFault text f)
 
--- by the sketch and the core program of its surface
-decided_by : (text : List ℕ) (s : SurfaceProgram) → ReadsAs Program text s → (d : Sketch) (p : CoreProgram) → IsSketchOf s d → IsProgramOf s d p → length p.cells ≡ s.declared + length (marks d)
-    → (size d ≤ 4096) ⊎ (4096 < size d) → (length p.cells ≤ 1024) ⊎ (1024 < length p.cells) → IsDecided text
+-- by the symbolic agent and the core program of its surface
+decided_by : (text : List ℕ) (s : SurfaceProgram) → ReadsAs Program text s → (d : SymbolicAgent) (p : CoreProgram) → IsSymbolicOf s d → IsCoreOfSymbolic s d p → length p.cells ≡ s.declared + length (binders d)
+    → (symbolic_size d ≤ 4096) ⊎ (4096 < symbolic_size d) → (length p.cells ≤ 1024) ⊎ (1024 < length p.cells) → IsDecided text
 decided_by text s reads d p drawn made count (inr many) cells = inr (TooManyNodes, many_nodes s reads (d, drawn, many))
 decided_by text s reads d p drawn made count (inl few) (inr many) = inr (TooManyCells, many_cells s reads (d, drawn, few, omega arith))
 decided_by text s reads d p drawn made count (inl few) (inl small) =
@@ -57,7 +57,7 @@ surface_decided : (text : List ℕ) (s : SurfaceProgram) → ReadsAs Program tex
 surface_decided text s reads =
     let formed = surface_formed s (text, reads) in
     let (p, (d, drawn, made)) = some_expansion s formed in
-    decided_by text s reads d p drawn made (cells_many s d p formed made) (split (size d) 4096) (split (length p.cells) 1024)
+    decided_by text s reads d p drawn made (cells_many s d p formed made) (split (symbolic_size d) 4096) (split (length p.cells) 1024)
 
 text_decided : (text : List ℕ) → IsDecided text
 text_decided text = elim (verdict Program text) [ inl (s, reads) ↦ surface_decided text s reads | inr (f, says, refused) ↦ inr (f, misread f says refused) ]

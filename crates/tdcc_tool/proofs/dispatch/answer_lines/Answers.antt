@@ -24,7 +24,7 @@ returns-in-Err g c =
           (subst (λ (t : List ℕ). HasFault t c.in-Err.fault) c.text.ensures (c.in-Err.ensures.fault says)) k.status k.out k.err;
       ended = search rules;
       command_end = search rules;
-      later = search rules;
+      faults_only_rise = search rules;
       read = search rules;
       steady = search rules;
     }
