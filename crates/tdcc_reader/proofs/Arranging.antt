@@ -1,4 +1,4 @@
--- The same for the flat_forms of the code, where the newest one is the last.
+-- The same for the flat forms of the code, where the newest one is the last.
 use Rattle.std.proofs.Common.{◌≡◌, ℕ, ◌+◌, ◌-◌, ◌≤◌, min, List, [], ◌∷◌, ◌++◌, length, reverse, true, false, ap, sym, ◌∙◌, subst, arith, append_assoc}
 use Rattle.std.specs.Prelude.{map, insert}
 use Rattle.std.specs.List.{AllByRecursion}
@@ -18,7 +18,7 @@ length-came_views cs = length-map (reverse cs) inserted_view ∙ length-reverse 
 newest : (cs : List Insertion) (c : Insertion) (more : List Insertion) → more ≡ cs ++ c ∷ [] → inserted_views more ≡ inserted_view c ∷ inserted_views cs
 newest cs c more e = ap inserted_views e ∙ last_first inserted_view cs c
 
--- flat_forms that are nested, and places open among them
+-- flat forms that are nested, and places open among them
 abbrev Keeps : List Insertion → List ℕ → Type 0
 Keeps cs ks = AreNested (inserted_views cs) × AreOpen ks (inserted_views cs)
 
@@ -58,7 +58,7 @@ last_open cs ss less k (n, o) e =
     let P : List ℕ → Type 0 = λ l. AreOpen l (inserted_views cs) in
     (n, subst P (ap reverse e ∙ reverse-append less (k ∷ [])) o)
 
--- the places of flat_forms that wait
+-- the places of flat forms that wait
 abbrev places : List Inserted → List ℕ
 places ws = map (λ c. c.place) ws
 

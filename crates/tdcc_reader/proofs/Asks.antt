@@ -126,6 +126,6 @@ whole_from dialect (Runs a) s m at e = agent_whole dialect a s m 0 at e
 whole_from dialect (Signals ns p) s m at e = whole_from dialect p (names_scope ns s m) (m + length (names_cells ns)) (at + 1 + names_width ns) e
 whole_from dialect (Ints is p) s m at e = whole_from dialect p (items_scope is s m) (m + length (items_cells is)) (at + 1 + items_width is) e
 
--- The flat_forms of a program within the limits have such asks.
+-- The flat forms of a program within the limits have such asks.
 pub program_whole : (dialect : Dialect) (p : ProgramPhrase) → program_limit dialect p ≡ None → All IsWholeEntry (flat_forms (program_tree p))
 program_whole dialect p e = whole_from dialect p [] 0 0 e

@@ -204,7 +204,7 @@ items_built (MoreItem x l k is) rest f s n c d h =
     ∙ ap (λ j. acts rest (B f [] s (items_scope is (placed x (length c) ∷ n) j) ((c ++ declared_number x l k ∷ []) ++ items_cells is) d)) (length_more c (declared_number x l k))
     ∙ ap (λ q. acts rest (B f [] s (items_scope is (placed x (length c) ∷ n) (length c + 1)) q d)) (append_assoc c (declared_number x l k ∷ []) (items_cells is))
 
--- the flat_forms, the cells and how many are declared
+-- the flat forms, the cells and how many are declared
 pub record Gives (p : ProgramPhrase) (n : List Placed) (c : List Declared) (b : pass.Built) : Type 0 where
   pub tree : b.flat_forms ≡ flat_forms (tree_from p n (length c))
   pub cells : b.cells ≡ c ++ program_cells p

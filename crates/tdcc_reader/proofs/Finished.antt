@@ -30,7 +30,7 @@ get_or-map f [] (suc k) d = refl
 get_or-map f (x ∷ xs) zero d = refl
 get_or-map f (x ∷ xs) (suc k) d = get_or-map f xs k d
 
--- the flat_forms of the code have whole asks
+-- the flat forms of the code have whole asks
 pub ready_whole : (dialect : Dialect) (text : List ℕ) (p : ProgramPhrase) (b : Built) (ds : List FlatForm) → IsReadyToBuild dialect text p b → map flat_form_view ds ≡ b.flat_forms → All IsWholeFlatForm ds
 ready_whole dialect text p b ds r e k d h =
     let all : All IsWholeEntry (map flat_form_view ds) = subst (All IsWholeEntry) (sym (e ∙ r.built.tree)) (program_whole dialect p r.accepts.within) in

@@ -1,4 +1,4 @@
--- The forms of a tree's flat_forms are the tree's form_listing.
+-- The forms of a tree's flat forms are the tree's form_listing.
 use Rattle.std.proofs.Common.{◌≡◌, ℕ, suc, ◌+◌, ◌≤◌, List, [], ◌∷◌, ◌++◌, length, refl, ap, ◌∙◌, arith, length-append}
 use Rattle.tdcc_reader.specs.declared.surface.Form.{Form}
 use Rattle.tdcc_reader.specs.declared.surface.Form.TheVariants as form
@@ -41,7 +41,7 @@ below make a at h ih =
 body_fits : (at n : ℕ) → at + suc n ≤ 4294967295 → suc at + n ≤ 4294967295
 body_fits at n h = omega arith
 
--- The forms of flat_forms are numbered as the tree's.
+-- The forms of flat forms are numbered as the tree's.
 pub listed : (t : Tree) (at : ℕ) → at + form_count t ≤ 4294967295 → forms_at at (flat_forms t) ≡ form_listing at t
 listed Skip at h = refl
 listed (Tell c) at h = refl

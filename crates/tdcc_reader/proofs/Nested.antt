@@ -1,4 +1,4 @@
--- FlatForms that inserted, when one more comes, and when the last one goes to its place.
+-- Flat forms that inserted, when one more comes, and when the last one goes to its place.
 use Rattle.std.proofs.Common.{◌≡◌, ℕ, ◌≤◌, List, [], ◌∷◌, ◌++◌, length, reverse, refl, ap, sym, ◌∙◌, arith}
 use Rattle.std.specs.Prelude.{map, insert}
 use Rattle.std.specs.List.{AllByRecursion}

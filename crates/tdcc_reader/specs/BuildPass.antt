@@ -1,4 +1,4 @@
--- The pass that builds the flat_forms of a program: the flat_forms so far, the tokens of the constraint at hand, where the unit
+-- The pass that builds the flat forms of a program: the flat forms so far, the tokens of the constraint at hand, where the unit
 -- at hand of each open agent and of each open do and time begins, the names in scope, the cells, what waits for a later
 -- term, and how many cells are declared.
 use Rattle.std.specs.Prelude.{ℕ, min, ℤ, List, [], ◌∷◌, ◌++◌, length, map}
@@ -52,7 +52,7 @@ scoped_view s = placed s.0 s.1
 abbrev pub built_view : code.Builder → Built
 built_view b = built b.insertions.flat_forms b.ask.items b.insertions.starts (map scoped_view b.scope) (map cell_view b.cells.items) (waits_view b.held) b.declared
 
--- a flat_form without a constraint, or with the one at hand
+-- a flat form without a constraint, or with the one at hand
 abbrev pub puts : FlatFormKind → Built → Built
 puts k b = built (b.flat_forms ++ entry k [] ∷ []) b.ask b.starts b.scope b.cells b.waits b.declared
 
@@ -71,7 +71,7 @@ abbrev pub asks_waiting : Waits → List Token → Built → Built
 asks_waiting (Subject cell) ts b = built b.flat_forms (b.ask ++ map (λ t. (cell, t)) ts) b.starts b.scope b.cells Nothing b.declared
 asks_waiting _ ts b = b
 
--- the unit at hand begins behind the flat_forms so far
+-- the unit at hand begins behind the flat forms so far
 abbrev pub begins : Built → Built
 begins b = built b.flat_forms b.ask (length b.flat_forms ∷ b.starts) b.scope b.cells b.waits b.declared
 

@@ -1,4 +1,4 @@
--- What is built of a program: the flat_forms of its tree, its cells, and how many of them are declared.
+-- What is built of a program: the flat forms of its tree, its cells, and how many of them are declared.
 use Rattle.std.specs.Prelude.{◌≡◌, ◌≤◌, ℕ, List, [], length, None}
 use Rattle.program_grammar.specs.Phrases.{ProgramPhrase}
 use Rattle.program_grammar.specs.Spelling.{program}

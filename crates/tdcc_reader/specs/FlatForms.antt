@@ -21,7 +21,7 @@ entry k a = record { kind = k; ask = a }
 abbrev pub flat_form_view : code.FlatForm → Entry
 flat_form_view d = entry d.kind d.ask.items
 
--- a tree as flat_forms
+-- a tree as flat forms
 abbrev pub flat_forms : Tree → List Entry
 flat_forms Skip = entry kind.Skip [] ∷ []
 flat_forms (Tell c) = entry kind.Tell c ∷ []
@@ -40,7 +40,7 @@ flat_forms (Time a c) = entry kind.Time c ∷ flat_forms a
 abbrev pub link : ℕ → ℕ → ℕ
 link at behind = min (at + behind) 4294967295
 
--- the form of a flat_form that stands at this place
+-- the form of a flat form that stands at this place
 abbrev pub form_at : ℕ → FlatFormKind → Constraint → Form
 form_at at kind.Skip c = form.Skip
 form_at at kind.Tell c = form.Tell c
@@ -55,7 +55,7 @@ form_at at kind.When c = form.When c (link at 1)
 form_at at kind.Watch c = form.Watch (link at 1) c
 form_at at kind.Time c = form.Time (link at 1) c
 
--- the forms of flat_forms that stand from this place on
+-- the forms of flat forms that stand from this place on
 abbrev pub forms_at : ℕ → List Entry → List Form
 forms_at at [] = []
 forms_at at (e ∷ es) = form_at at e.kind e.ask ∷ forms_at (at + 1) es
@@ -64,7 +64,7 @@ forms_at at (e ∷ es) = form_at at e.kind e.ask ∷ forms_at (at + 1) es
 abbrev pub IsConstraintList : Constraint → Type 0
 IsConstraintList c = (1 ≤ length c) × (length c ≤ most_constraint_tokens)
 
--- the flat_form has such an ask, where its form has one
+-- the flat form has such an ask, where its form has one
 abbrev pub HasConstraint : FlatFormKind → Constraint → Type 0
 HasConstraint kind.Tell c = IsConstraintList c
 HasConstraint kind.Then c = IsConstraintList c
@@ -78,6 +78,6 @@ HasConstraint _ c = Unit {0}
 abbrev pub IsWholeEntry : Entry → Type 0
 IsWholeEntry e = HasConstraint e.kind e.ask
 
--- the same of a flat_form of the code
+-- the same of a flat form of the code
 abbrev pub IsWholeFlatForm : code.FlatForm → Type 0
 IsWholeFlatForm d = HasConstraint d.kind d.ask.items

@@ -1,13 +1,13 @@
--- FlatForms in the order in which they come, each with its place among those that inserted before it, and how they get into
+-- Flat forms in the order in which they come, each with its place among those that were inserted before it, and how they get into
 -- preorder: from the last one to the first, where one that belongs in front of others waits until these have gone.
--- Each list has the newest flat_form first. This project's own.
+-- Each list has the newest flat form first. This project's own.
 use Rattle.std.specs.Prelude.{◌≡◌, ℕ, ◌≤◌, nat_le, List, [], ◌∷◌, ◌++◌, length, map, reverse, insert, Bool, false}
 use Rattle.std.specs.List.{AllByRecursion}
 use Rattle.tdcc_reader.specs.declared.insertions.Insertion.{Insertion}
 use Rattle.tdcc_reader.specs.declared.flat_form.FlatForm.{FlatForm}
 use Rattle.tdcc_reader.specs.FlatForms.{Entry, flat_form_view}
 
--- a flat_form that inserted, and its place
+-- a flat form that was inserted, and its place
 pub record Inserted : Type 0 where
   pub place : ℕ
   pub entry : Entry
@@ -32,7 +32,7 @@ abbrev pub AreInsertedBehind : ℕ → List Inserted → Type 0
 AreInsertedBehind k [] = Unit {0}
 AreInsertedBehind k (c ∷ cs) = (k ≤ length cs → k ≤ c.place) × AreInsertedBehind k cs
 
--- each has its place among those that inserted before it, and what inserted behind this place stays behind it
+-- each has its place among those that were inserted before it, and what inserted behind this place stays behind it
 abbrev pub AreNested : List Inserted → Type 0
 AreNested [] = Unit {0}
 AreNested (c ∷ cs) = (c.place ≤ length cs) × AreInsertedBehind c.place cs × AreNested cs
@@ -42,12 +42,12 @@ abbrev pub AreOpen : List ℕ → List Inserted → Type 0
 AreOpen [] cs = Unit {0}
 AreOpen (k ∷ ks) cs = (k ≤ length cs) × AreInsertedBehind k cs × AllByRecursion (λ j. j ≤ k) ks × AreOpen ks cs
 
--- flat_forms that wait go into a list, each in its place
+-- flat forms that wait go into a list, each in its place
 abbrev pub put_in : List Entry → List Inserted → List Entry
 put_in fs [] = fs
 put_in fs (c ∷ cs) = put_in (insert fs c.place c.entry) cs
 
--- the first of those that wait belongs behind so many flat_forms
+-- the first of those that wait belongs behind so many flat forms
 abbrev pub goes_in : ℕ → List Inserted → Bool
 goes_in n [] = false
 goes_in n (c ∷ cs) = nat_le n c.place

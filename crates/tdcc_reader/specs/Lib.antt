@@ -18,7 +18,7 @@ pub mod OpenForms
 pub mod Insertions
 pub mod BuildPass
 pub mod Texts
-pub mod Parts
+pub mod ParsedTexts
 pub mod Builds
 pub mod Laws
 pub mod Messages

@@ -1,4 +1,4 @@
--- The flat_forms of a program in the making, in preorder, and where the unit at hand of each open agent and of each open do
+-- The flat forms of a program in the making, in preorder, and where the unit at hand of each open agent and of each open do
 -- and time begins. This project's own.
 use Rattle.std.specs.Prelude.{ℕ, ◌+◌, ◌-◌, min, List, [], ◌∷◌, length, insert}
 use Rattle.tdcc_reader.specs.declared.flat_form.FlatFormKind.TheVariants.{Par}

@@ -3,7 +3,7 @@ ghost use Rattle.std.specs.Prelude.{◌≡◌, ℕ, List, IfErr, IfOk};
 ghost use Rattle.program_grammar.specs.Phrases.{ProgramPhrase};
 ghost use Rattle.tdcc_reader.specs.BuildPass.{built_view};
 ghost use Rattle.tdcc_reader.specs.Builds.{IsReadyToBuild};
-ghost use Rattle.tdcc_reader.specs.Parts.{surface_of};
+ghost use Rattle.tdcc_reader.specs.ParsedTexts.{surface_of};
 ghost use Rattle.tdcc_reader.specs.Surfaces.{IsSurfaceOf};
 ghost use Rattle.tdcc_reader.specs.declared.dialect.Dialect.{Dialect};
 ghost use Rattle.tdcc_reader.specs.declared.fault.ReadFault as ReadFault;
@@ -11,11 +11,11 @@ ghost use Rattle.tdcc_reader.specs.declared.fault.ReadFault as ReadFault;
 use crate::build::Builder;
 use crate::fault::ReadFault;
 use crate::flat_form::forms;
-use crate::surface::Parts;
+use crate::surface::ParsedText;
 use std::alloc::Global;
 
 /// The parts of the program that is built.
-pub(crate) fn finish(alloc: Global, built: Builder<'_>) -> Result<Parts, ReadFault>
+pub(crate) fn finish(alloc: Global, built: Builder<'_>) -> Result<ParsedText, ReadFault>
     requires { (dialect : Dialect) × (text : List ℕ) × (p : ProgramPhrase) × IsReadyToBuild dialect text p (built_view built) }
     ensures found { (dialect : Dialect) (text : List ℕ) (p : ProgramPhrase) → IsReadyToBuild dialect text p (built_view built.entry)
         → IfOk result (λ parts. IsSurfaceOf p (surface_of parts)) }
@@ -23,7 +23,7 @@ pub(crate) fn finish(alloc: Global, built: Builder<'_>) -> Result<Parts, ReadFau
 {
     let flat_forms = built.insertions.in_preorder(alloc)?;
     let forms = forms(alloc, &flat_forms)?;
-    Ok(Parts {
+    Ok(ParsedText {
         cells: built.cells,
         declared: built.declared as u32,
         forms,

@@ -39,7 +39,7 @@ fn link(at: usize, behind: usize) -> u32
     u32::try_from(at.saturating_add(behind)).unwrap_or(u32::MAX)
 }
 
-/// The form of a flat_form that has this number.
+/// The form of a flat form that has this number.
 fn form_at(at: usize, kind: FlatFormKind, ask: Vec<(u32, Token)>) -> Form
     requires { HasConstraint kind ask.items }
     ensures { result ≡ form_at at kind ask.items }
@@ -79,7 +79,7 @@ fn form_at(at: usize, kind: FlatFormKind, ask: Vec<(u32, Token)>) -> Form
     }
 }
 
-/// The forms of the flat_forms, numbered from 0.
+/// The forms of the flat forms, numbered from 0.
 pub(crate) fn forms(alloc: Global, flat_forms: &[FlatForm]) -> Result<Vec<Form>, AllocError>
     requires { All IsWholeFlatForm flat_forms.now }
     ensures { IfOk result (λ forms. forms.items ≡ forms_at 0 (map flat_form_view flat_forms.now)) }

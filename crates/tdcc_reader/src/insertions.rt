@@ -1,4 +1,4 @@
-// FlatForms in the order in which they come.
+// Flat forms in the order in which they come.
 ghost use Rattle.std.specs.Prelude.{◌≡◌, ◌∷◌, ◌++◌, ◌<◌, ◌+◌, ◌*◌, [], false, IfOk, IsTrue, List, OnOk, length, map};
 ghost use Rattle.tdcc_reader.specs.Insertions.{PlacesInOrder, inserted_views, goes_in};
 ghost use Rattle.tdcc_reader.specs.FlatForms.{Entry, flat_form_view};
@@ -9,14 +9,14 @@ use crate::flat_form::{FlatForm, FlatFormKind};
 use std::alloc::{AllocError, Global};
 use std::marker::Model;
 
-/// A flat_form, and its place among those that came before it.
+/// A flat form, and its place among those that came before it.
 #[derive(Debug, Drop)]
 pub(crate) struct Insertion {
     pub(crate) place: usize,
     pub(crate) flat_form: FlatForm,
 }
 
-/// The flat_forms of a program in the making. One that belongs in front of others comes behind them, and is not put in its
+/// The flat forms of a program in the making. One that belongs in front of others comes behind them, and is not put in its
 /// place before all have come, so that nothing has to make room for it.
 #[derive(Debug, Drop)]
 pub(crate) struct Insertions {
@@ -38,7 +38,7 @@ impl Model for Insertions {
     ghost invariant = { λ a. AreNested (inserted_views a.came.items) × AreOpen (reverse a.starts.items) (inserted_views a.came.items) };
 }
 
-/// Whether the last of those that wait belongs behind so many flat_forms.
+/// Whether the last of those that wait belongs behind so many flat forms.
 fn goes_in(waiting: &[Insertion], place: usize) -> bool
     ensures { result ≡ goes_in place (inserted_views waiting.now) }
 {
@@ -48,7 +48,7 @@ fn goes_in(waiting: &[Insertion], place: usize) -> bool
     }
 }
 
-/// Moves the flat_form that stands last in preorder to the back, or to those that wait. Says whether there was one.
+/// Moves the flat form that stands last in preorder to the back, or to those that wait. Says whether there was one.
 fn move_last(
     left: &mut Vec<Insertion>,
     waiting: &mut Vec<Insertion>,
@@ -77,7 +77,7 @@ fn move_last(
 }
 
 impl Insertions {
-    /// No flat_forms, and one agent that begins.
+    /// No flat forms, and one agent that begins.
     pub(crate) fn new(alloc: Global) -> Result<Insertions, AllocError>
         ensures { IfOk result (λ a. a ≡ open_forms [] (0 ∷ [])) }
     {
@@ -89,7 +89,7 @@ impl Insertions {
         })
     }
 
-    /// Puts a flat_form behind the others.
+    /// Puts a flat form behind the others.
     pub(crate) fn put(&mut self, flat_form: FlatForm) -> Result<(), AllocError>
         ensures { OnOk result (self.new ≡ open_forms (self.old.flat_forms ++ flat_form_view flat_form ∷ []) self.old.starts) }
     {
@@ -98,7 +98,7 @@ impl Insertions {
         Ok(())
     }
 
-    /// The unit at hand begins behind the flat_forms so far.
+    /// The unit at hand begins behind the flat forms so far.
     pub(crate) fn begin(&mut self) -> Result<(), AllocError>
         ensures { OnOk result (self.new ≡ open_forms self.old.flat_forms (length self.old.flat_forms ∷ self.old.starts)) }
     {
@@ -113,7 +113,7 @@ impl Insertions {
         let _ = self.starts.pop();
     }
 
-    /// Puts a flat_form in front of the unit at hand, which then has ended, if there is one.
+    /// Puts a flat form in front of the unit at hand, which then has ended, if there is one.
     pub(crate) fn wrap(&mut self, flat_form: FlatForm) -> Result<(), AllocError>
         ensures { OnOk result (self.new ≡ wrapped (flat_form_view flat_form) self.old.starts self.old) }
     {
@@ -140,7 +140,7 @@ impl Insertions {
         Ok(())
     }
 
-    /// The flat_forms in preorder.
+    /// The flat forms in preorder.
     pub(crate) fn in_preorder(self, alloc: Global) -> Result<Vec<FlatForm>, AllocError>
         ensures { IfOk result (λ flat_forms. map flat_form_view flat_forms.items ≡ self.flat_forms) }
     {

@@ -27,4 +27,4 @@ pub use dialect::{
 pub use fault::ReadFault;
 pub use laws::{limits_law, refusal_law};
 pub use reader::{read_program, read_text};
-pub use surface::{Form, Parts, Surface};
+pub use surface::{Form, ParsedText, Surface};

@@ -8,7 +8,7 @@ ghost use Rattle.tdcc_reader.specs.Refusals.{Accepts, IsProgramOf, Refuses, Refu
 ghost use Rattle.program_lexemes.specs.Limits.{longest_core_text};
 ghost use Rattle.tdcc_reader.specs.LimitFaults.{program_limit};
 ghost use Rattle.agent_core.specs.Limits.{most_declared_cells};
-ghost use Rattle.tdcc_reader.specs.Parts.{surface_of};
+ghost use Rattle.tdcc_reader.specs.ParsedTexts.{surface_of};
 ghost use Rattle.tdcc_reader.specs.Scope.{program_fault};
 ghost use Rattle.tdcc_reader.specs.Surfaces.{IsSurfaceOf, declared_cells};
 ghost use Rattle.tdcc_reader.specs.TermViews.{term_view};
@@ -23,7 +23,7 @@ use crate::lexing::read_terms;
 use crate::limits::check_limits;
 use crate::naming::check_names;
 use crate::parsing::read_steps;
-use crate::surface::{Parts, Surface};
+use crate::surface::{ParsedText, Surface};
 use crate::terms::Term;
 use agent_core::MAX_DECLARED;
 use program_grammar::Step;
@@ -59,7 +59,7 @@ fn build_checked<'a>(
 /// # Errors
 ///
 /// The first refusal of the text, at its place; `Memory` where an allocation fails.
-pub fn read_text(alloc: Global, dialect: Dialect, text: &[u8]) -> Result<Parts, ReadFault>
+pub fn read_text(alloc: Global, dialect: Dialect, text: &[u8]) -> Result<ParsedText, ReadFault>
     // What is read is the surface of the program that the text is.
     ensures found { IfOk result (λ parts. ReadsAs dialect text.now (surface_of parts)) }
     // A refusal is the first one, at its place.

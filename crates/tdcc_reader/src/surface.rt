@@ -38,7 +38,7 @@ pub enum Form {
 /// What is read of a text: the declared cells and then one local cell for each `new`, how many are declared, and the
 /// forms in preorder.
 #[derive(Debug, Drop)]
-pub struct Parts {
+pub struct ParsedText {
     pub cells: Vec<CellDecl>,
     pub declared: u32,
     pub forms: Vec<Form>,

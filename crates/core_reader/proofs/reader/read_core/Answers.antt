@@ -1,7 +1,7 @@
 use Rattle.std.proofs.Common.{◌≡◌, sym, ◌∙◌, arith, subst}
 use Rattle.agent_core.specs.Programs.{CoreProgram}
 use Rattle.tdcc_reader.specs.declared.fault.ReadFault.TheVariants as fault
-use Rattle.tdcc_reader.specs.Parts.{surface_of}
+use Rattle.tdcc_reader.specs.ParsedTexts.{surface_of}
 use Rattle.tdcc_reader.proofs.Options.{err_to}
 use Rattle.core_reader.specs.Readings.{AcceptsCore, IsCoreOf}
 use Rattle.core_reader.proofs.CorePrograms.{forms_many, cells_many, surface_core, made_core, core_is_program}

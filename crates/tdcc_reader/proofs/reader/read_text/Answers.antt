@@ -8,9 +8,9 @@ use Rattle.program_grammar.specs.Terms as grammar
 use Rattle.tdcc_reader.specs.TermViews.{term_view}
 use Rattle.tdcc_reader.specs.BuildPass.{built_view}
 use Rattle.tdcc_reader.specs.Refusals.{IsProgramOf}
-use Rattle.tdcc_reader.specs.declared.surface.Parts.{Parts}
+use Rattle.tdcc_reader.specs.declared.surface.ParsedText.{ParsedText}
 use Rattle.tdcc_reader.specs.Surfaces.{IsSurfaceOf}
-use Rattle.tdcc_reader.specs.Parts.{surface_of}
+use Rattle.tdcc_reader.specs.ParsedTexts.{surface_of}
 use Rattle.tdcc_reader.specs.Texts.{ReadsAs}
 use Rattle.tdcc_reader.proofs.Options.{ok_to, ok_or, err_to}
 use Rattle.tdcc_reader.proofs.Finished.{all_ready}
@@ -26,7 +26,7 @@ returns-clause-found c =
     let long = length-map c.in_ok-terms.terms.items term_view in
     let few = c.in_ok-terms.ensures.bounded in
     let ready = all_ready c.args.dialect c.args.text.now (map term_view c.in_ok-terms.terms.items) p (built_view c.in_ok-built.built) c.in_ok-terms.ensures.found (omega arith) here (c.in_ok-built.ensures.found p there steps) in
-    ok_to c.finish.result (λ (parts : Parts). IsSurfaceOf p (surface_of parts)) (λ (parts : Parts). ReadsAs c.args.dialect c.args.text.now (surface_of parts)) (c.finish.ensures.found c.args.dialect c.args.text.now p ready) (λ s surface. (p, ready.accepts, surface))
+    ok_to c.finish.result (λ (parts : ParsedText). IsSurfaceOf p (surface_of parts)) (λ (parts : ParsedText). ReadsAs c.args.dialect c.args.text.now (surface_of parts)) (c.finish.ensures.found c.args.dialect c.args.text.now p ready) (λ s surface. (p, ready.accepts, surface))
 
 pub returns-clause-complete : goal.returns-clause-complete
 returns-clause-complete c = λ p accepts.
@@ -39,7 +39,7 @@ returns-clause-complete c = λ p accepts.
     let long = length-map c.in_ok-terms.terms.items term_view in
     let few = c.in_ok-terms.ensures.bounded in
     let ready = all_ready c.args.dialect c.args.text.now (map term_view c.in_ok-terms.terms.items) p (built_view c.in_ok-built.built) c.in_ok-terms.ensures.found (omega arith) here (c.in_ok-built.ensures.found p there steps) in
-    ok_or c.finish.result (λ (parts : Parts). IsSurfaceOf p (surface_of parts)) (λ (parts : Parts). IsSurfaceOf p (surface_of parts)) (λ e. e ≡ fault.Memory) (λ e. e ≡ fault.Memory) (c.finish.ensures.found c.args.dialect c.args.text.now p ready) c.finish.ensures.fault (λ s surface. surface) (λ e is. is)
+    ok_or c.finish.result (λ (parts : ParsedText). IsSurfaceOf p (surface_of parts)) (λ (parts : ParsedText). IsSurfaceOf p (surface_of parts)) (λ e. e ≡ fault.Memory) (λ e. e ≡ fault.Memory) (c.finish.ensures.found c.args.dialect c.args.text.now p ready) c.finish.ensures.fault (λ s surface. surface) (λ e is. is)
 
 pub finish-requires : goal.finish-requires
 finish-requires c =
@@ -55,7 +55,7 @@ finish-requires c =
 pub returns-in_err-terms-clause-complete : goal.returns-in_err-terms-clause-complete
 returns-in_err-terms-clause-complete c = λ p accepts.
     let is = c.in_err-terms.ensures.complete accepts.terms accepts.has in
-    err_to c.from_residual.result (λ (parts : Parts). IsSurfaceOf p (surface_of parts)) _ (λ e. e ≡ fault.Memory) c.from_residual.ensures.1 (λ e h. h ∙ is)
+    err_to c.from_residual.result (λ (parts : ParsedText). IsSurfaceOf p (surface_of parts)) _ (λ e. e ≡ fault.Memory) c.from_residual.ensures.1 (λ e h. h ∙ is)
 
 pub returns-in_err-steps-clause-complete : goal.returns-in_err-steps-clause-complete
 returns-in_err-steps-clause-complete c = λ p accepts.
@@ -64,7 +64,7 @@ returns-in_err-steps-clause-complete c = λ p accepts.
     let Q : List Term → Type 0 = λ l. IsProgramOf c.args.dialect (map term_view l) p in
     let first : IsProgramOf c.args.dialect (map term_view c.deref.result.now) p = subst Q (sym c.deref.ensures.value) here in
     let is = c.in_err-steps.ensures.complete p first in
-    err_to c.from_residual-in_err-steps.result (λ (parts : Parts). IsSurfaceOf p (surface_of parts)) _ (λ e. e ≡ fault.Memory) c.from_residual-in_err-steps.ensures.1 (λ e h. h ∙ is)
+    err_to c.from_residual-in_err-steps.result (λ (parts : ParsedText). IsSurfaceOf p (surface_of parts)) _ (λ e. e ≡ fault.Memory) c.from_residual-in_err-steps.ensures.1 (λ e h. h ∙ is)
 
 pub returns-in_err-built-clause-complete : goal.returns-in_err-built-clause-complete
 returns-in_err-built-clause-complete c = λ p accepts.
@@ -75,4 +75,4 @@ returns-in_err-built-clause-complete c = λ p accepts.
     let there : IsProgramOf c.args.dialect (map term_view c.deref-2.result.now) p = subst Q (sym c.deref-2.ensures.value) here in
     let steps : AreSteps p c.deref-3.result.now = subst (AreSteps p) (sym c.deref-3.ensures.value) (c.in_ok-steps.ensures.complete p first) in
     let is = c.in_err-built.ensures.complete p there steps accepts.within accepts.named accepts.declared in
-    err_to c.from_residual-in_err-built.result (λ (parts : Parts). IsSurfaceOf p (surface_of parts)) _ (λ e. e ≡ fault.Memory) c.from_residual-in_err-built.ensures.1 (λ e h. h ∙ is)
+    err_to c.from_residual-in_err-built.result (λ (parts : ParsedText). IsSurfaceOf p (surface_of parts)) _ (λ e. e ≡ fault.Memory) c.from_residual-in_err-built.ensures.1 (λ e h. h ∙ is)
