@@ -1,5 +1,5 @@
 -- An instant has few local cells: under each root each local cell of the program has one name.
-use Rattle.std.proofs.Common.{◌≡◌, ℕ, zero, suc, ◌+◌, ◌-◌, ◌*◌, ◌<◌, ◌≤◌, Bool, true, false, List, [], ◌∷◌, ◌++◌, length, map, take, replicate, Some, None, refl, sym, ap, ◌∙◌, subst, arith, length-append, ◌⊎◌, inl, inr}
+use Rattle.std.proofs.Common.{◌≡◌, ℕ, zero, suc, ◌+◌, ◌-◌, ◌*◌, ◌≤◌, Bool, true, false, List, [], ◌∷◌, ◌++◌, length, map, take, replicate, Some, None, refl, sym, ap, ◌∙◌, subst, arith, length-append, ◌⊎◌, inl, inr}
 use Rattle.std.specs.Prelude.{Option, All, Contains, flat_map, slice_get, nat_lt, if◌then◌else◌}
 use Rattle.std.specs.List.Sorted.{IsStrictlySortedBy}
 use Rattle.std.proofs.lemmas.Bool.{ltb-false}
@@ -18,9 +18,11 @@ use Rattle.agent_core.specs.declared.node.CellDecl.{CellDecl}
 use Rattle.agent_core.specs.Agents.{Agent, Constraint, Skip, Tell, Then, Else, Par, New, Hence, Next, agent_at}
 use Rattle.agent_core.specs.Programs.{CoreProgram}
 use Rattle.agent_core.specs.WellFormed.{IsWellFormed, count_up}
+use Rattle.agent_core.specs.Limits.{most_cells}
 use Rattle.agent_core.specs.Listing.{size}
 use Rattle.agent_core.specs.Leaves as core
-use Rattle.agent_core.specs.Names.{Names, depth_of, local_name, name_of, new_of}
+use Rattle.agent_core.specs.Names.{depth_of, local_name, name_of, new_of}
+use Rattle.instant_net.specs.Limits.{most_roots, most_instant_cells}
 use Rattle.instant_net.specs.NamedLeaves.{Named, told_by}
 use Rattle.instant_net.specs.Programs.{token_named, constraint_named, guard_named, leaf_named, root_leaves}
 use Rattle.instant_net.specs.Collecting.{IsLocal, IsSpokenBy}
@@ -43,6 +45,7 @@ module _ (p : CoreProgram) (t : ℕ) (b : List ℕ) where
   abbrev inner : ℕ → List ℕ
   inner k = b ++ replicate k t
 
+  -- a name that has all its births has the same ones deeper inside
   longer : (d k j : ℕ) → d ≤ length (inner k) → take d (inner k) ≡ take d (inner (k + j))
   longer d k j le = sym (take-append-le d (inner k) (replicate j t) le) ∙ ap (take d) (append_assoc b (replicate k t) (replicate j t) ∙ ap (λ xs. b ++ xs) (replicate-append-replicate k j t))
 
@@ -63,6 +66,7 @@ module _ (p : CoreProgram) (t : ℕ) (b : List ℕ) where
       let same : d + k ≡ k + d = omega arith in
       ap (Local (new_of p.nodes cell)) (longer d d k long ∙ ap (λ (j : ℕ). take d (inner j)) same ∙ sym (longer d k d le))
 
+  -- what a token, a constraint, and the leaves of an agent speak of
   name-among : (k cell : ℕ) (d : CellDecl) → slice_get p.cells cell ≡ Some d → IsLocal p (name_of p (inner k) cell) → Contains root_names (name_of p (inner k) cell)
   name-among k cell d found is = go (nat_lt cell p.declared) refl is
     where
@@ -92,7 +96,7 @@ module _ (p : CoreProgram) (t : ℕ) (b : List ℕ) where
         | inr later ↦ rest later
       ]
 
-  -- it is spoken of above the agent, or is one of these names
+  -- a guard above speaks of it, or it is one of these names
   abbrev IsWithin : List core.Guard → CellName → Type 0
   IsWithin path q = Contains (path_names p path) q ⊎ Contains root_names q
 
@@ -136,7 +140,7 @@ module _ (p : CoreProgram) (t : ℕ) where
   abbrev all_names : List Closure → List CellName
   all_names rs = flat_map (λ r. root_names p t r.births) rs
 
-  all_names-few : length p.cells - p.declared ≤ 1024 → (rs : List Closure) → length (all_names rs) ≤ 1024 * length rs
+  all_names-few : length p.cells - p.declared ≤ most_cells → (rs : List Closure) → length (all_names rs) ≤ most_cells * length rs
   all_names-few few [] = omega arith
   all_names-few few (r ∷ rs) =
       let here = root_names-count p t r.births in
@@ -154,7 +158,7 @@ module _ (p : CoreProgram) (t : ℕ) where
       ]
 
   -- names of local cells that the roots speak of, no two of them equal
-  pub names-few : IsWellFormed p → (rs : List Closure) (names : List CellName) → All (IsSpokenBy p (root_leaves p rs t)) names → IsStrictlySortedBy name_cmp names → length names ≤ 1024 * length rs
+  names-few : IsWellFormed p → (rs : List Closure) (names : List CellName) → All (IsSpokenBy p (root_leaves p rs t)) names → IsStrictlySortedBy name_cmp names → length names ≤ most_cells * length rs
   names-few is rs names spoken order =
       let cells = is.limits.few_cells in
       let declared = is.limits.within in
@@ -162,4 +166,12 @@ module _ (p : CoreProgram) (t : ℕ) where
       let among = length-le_from_is_member name_equiv names (all_names rs) (IsDistinct-from_sorted name_cmp names order) (λ q e.
       let s = All-contains (IsSpokenBy p (root_leaves p rs t)) names q spoken (Contains-from_any equal_names q names e) in
       list_any-from_Contains name_equiv q (all_names rs) (all-among q s.local rs s.spoken)) in
+      omega arith
+
+  -- the cells of the instant are the declared ones and those of such names
+  pub cells-few : IsWellFormed p → (rs : List Closure) (names : List CellName) → length rs ≤ most_roots → All (IsSpokenBy p (root_leaves p rs t)) names → IsStrictlySortedBy name_cmp names → p.declared + length names ≤ most_instant_cells
+  cells-few is rs names few spoken order =
+      let cells = is.limits.few_cells in
+      let declared = is.limits.within in
+      let most = names-few is rs names spoken order in
       omega arith
