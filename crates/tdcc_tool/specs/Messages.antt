@@ -5,7 +5,7 @@ use Rattle.agent_core.specs.Programs.{CoreProgram}
 use Rattle.tdcc_reader.specs.declared.fault.ReadFault.{ReadFault}
 use Rattle.tdcc_reader.specs.Messages.{fault_message}
 use Rattle.trace_text.specs.declared.fault.LineFault.{LineFault}
-use Rattle.trace_text.specs.declared.fault.LineFault.TheVariants.{BadToken, UnknownName, WrongKind, LineTooLong, Memory}
+use Rattle.trace_text.specs.Messages.{line_fault_message}
 
 -- the program's name before the text, and a line feed after it
 abbrev pub message : List ℕ → List ℕ
@@ -29,21 +29,13 @@ abbrev pub strata_line : CoreProgram → ℕ → ℕ → ℕ → List ℕ
 strata_line p guard told node =
     message (codes "program: not stratified, " ++ cell_name (slice_get p.cells guard) ++ codes " guards " ++ cell_name (slice_get p.cells told) ++ codes " at node " ++ decimal node)
 
--- what is said of the fault of a line; of out of memory nothing is said
-abbrev pub fault_text : LineFault → List ℕ
-fault_text (BadToken offset) = codes "bad token at offset " ++ decimal offset
-fault_text (UnknownName offset) = codes "unknown name at offset " ++ decimal offset
-fault_text (WrongKind offset) = codes "wrong kind at offset " ++ decimal offset
-fault_text LineTooLong = codes "line over 32768 bytes"
-fault_text Memory = []
-
 -- what is said of the line of instant n
 abbrev pub instant_line : ℕ → List ℕ → List ℕ
 instant_line n text = message (codes "trace: instant " ++ decimal n ++ codes ": " ++ text)
 
 -- the line of instant n has the fault
 abbrev pub trace_line : ℕ → LineFault → List ℕ
-trace_line n fault = instant_line n (fault_text fault)
+trace_line n fault = instant_line n (line_fault_message fault)
 
 -- there is a line for an instant more than there may be
 abbrev pub many_line : ℕ → List ℕ
