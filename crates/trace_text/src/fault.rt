@@ -6,15 +6,15 @@ use std::alloc::AllocError;
 use std::fmt;
 use thiserror::Error;
 
-/// Why a trace line gives no input. The first piece that is refused decides; its offset is the
+/// Why a trace line gives no input. The first field that is refused decides; its offset is the
 /// number of bytes of the line before it.
 #[derive(Clone, Copy, Debug, PartialEq, Eq, Error)]
 pub enum LineFault {
-    /// The piece is no token's text.
+    /// The field is no token's text.
     BadToken { offset: u32 },
-    /// The piece names no declared cell.
+    /// The field names no declared cell.
     UnknownName { offset: u32 },
-    /// The piece is a token that does not fit the cell that it names.
+    /// The field is a token that does not fit the cell that it names.
     WrongKind { offset: u32 },
     /// The line has more than `LONGEST_TRACE_LINE` bytes.
     LineTooLong,
