@@ -1,6 +1,7 @@
 -- The one line on err that goes with each status but Ok. The texts are this project's own.
 use Rattle.std.specs.Prelude.{ℕ, List, [], ◌∷◌, ◌++◌, codes, decimal, slice_get, Option, Some, None}
 use Rattle.agent_core.specs.declared.node.CellDecl.{CellDecl}
+use Rattle.agent_core.specs.Limits.{most_instants}
 use Rattle.agent_core.specs.Programs.{CoreProgram}
 use Rattle.tdcc_reader.specs.declared.fault.ReadFault.{ReadFault}
 use Rattle.tdcc_reader.specs.Messages.{fault_message}
@@ -39,7 +40,7 @@ trace_line n fault = instant_line n (line_fault_message fault)
 
 -- there is a line for an instant more than there may be
 abbrev pub many_line : ℕ → List ℕ
-many_line n = instant_line n (codes "over 65536 instants")
+many_line n = instant_line n (codes "over " ++ decimal most_instants ++ codes " instants")
 
 -- instant n has this many leaves, which are more than it may have
 abbrev pub net_line : ℕ → ℕ → List ℕ

@@ -6,7 +6,7 @@ ghost use Rattle.tdcc_tool.specs.RunEnds as ends;
 ghost use Rattle.tdcc_tool.specs.Steps.{IsNotOutOfMemory};
 
 use crate::run_end::RunEnd;
-use agent_core::Program;
+use agent_core::{MAX_INSTANTS, Program};
 use std::alloc::Global;
 use tdcc_reader::ReadFault;
 use token_system::Memory;
@@ -65,9 +65,13 @@ pub fn end_line(alloc: Global, instant: u32, end: RunEnd) -> Result<Vec<u8>, Mem
     match end {
         RunEnd::Completed => Ok(Vec::new(alloc)),
         RunEnd::BadLine { fault } => {
-            instant_line(alloc, instant, fault.to_string(alloc)?.as_str())
+            let reason = fault.to_string(alloc)?;
+            instant_line(alloc, instant, reason.as_str())
         }
-        RunEnd::TooManyLines => instant_line(alloc, instant, "over 65536 instants"),
+        RunEnd::TooManyLines => {
+            let reason = format!(in alloc; "over {MAX_INSTANTS} instants")?;
+            instant_line(alloc, instant, reason.as_str())
+        }
         RunEnd::NetFull { leaves } => {
             let line = format!(in alloc; "tdcc: net: instant {instant}: {leaves} leaves\n")?;
             Ok(line.as_bytes().to_vec(alloc)?)
