@@ -2,7 +2,7 @@ use Rattle.std.proofs.Common.{refl, sym, ap, ◌∙◌}
 use Rattle.agent_core.specs.declared.node.CellDecl.{CellDecl}
 use Rattle.trace_text.specs.Inputs.{name_in, text_fits}
 use Rattle.trace_text.proofs.DeclaredTokens.{cell_read}
-use Rattle.trace_text.proofs.piece.read_field.Goals as goal
+use Rattle.trace_text.proofs.field.read_field.Goals as goal
 
 pub returns-in_default-clause-refused : goal.returns-in_default-clause-refused
 returns-in_default-clause-refused c = (refl, λ w text. c.in_default.ensures.bad refl w text)
@@ -16,7 +16,7 @@ returns-then-not-text_fits-clause-refused c = (
   record {
     text = c.in-Ok.ensures.read;
     named = sym c.in-Some.ensures.number;
-    found = cell_read c.args.program.now c.cells.result.now (name_in c.args.piece.now c.in-Ok.written) c.in-Some.cell c.index-cells-cell.result c.cells.ensures.program.limits.within c.cells.ensures.all (sym c.in-Some.ensures.number) c.index-cells-cell.is;
+    found = cell_read c.args.program.now c.cells.result.now (name_in c.args.field.now c.in-Ok.written) c.in-Some.cell c.index-cells-cell.result c.cells.ensures.program.limits.within c.cells.ensures.all (sym c.in-Some.ensures.number) c.index-cells-cell.is;
   },
   ap (λ (d : CellDecl). text_fits d.cell c.in-Ok.written) c.index-cells-cell.is ∙ sym c.text_fits.ensures ∙ c.if-not-text_fits.true,
 )
@@ -29,7 +29,7 @@ returns-clause-said c = record {
   names = record {
     text = c.in-Ok.ensures.read;
     named = sym c.in-Some.ensures.number;
-    found = cell_read c.args.program.now c.cells.result.now (name_in c.args.piece.now c.in-Ok.written) c.in-Some.cell c.index-cells-cell.result c.cells.ensures.program.limits.within c.cells.ensures.all (sym c.in-Some.ensures.number) c.index-cells-cell.is;
+    found = cell_read c.args.program.now c.cells.result.now (name_in c.args.field.now c.in-Ok.written) c.in-Some.cell c.index-cells-cell.result c.cells.ensures.program.limits.within c.cells.ensures.all (sym c.in-Some.ensures.number) c.index-cells-cell.is;
   };
   fits = ap (λ (d : CellDecl). text_fits d.cell c.in-Ok.written) c.index-cells-cell.is ∙ sym c.text_fits.ensures ∙ c.if-not-text_fits.false;
   meant = refl;

@@ -1,9 +1,9 @@
-//! What a piece of a line says, and telling it.
+//! What a field of a line says, and telling it.
 ghost use Rattle.std.specs.Prelude.{◌≡◌, ◌<◌, ◌^◌, IfErr, IfOk, IfSome, OnOk};
 ghost use Rattle.agent_core.specs.Stores.{IsStore};
 ghost use Rattle.trace_text.specs.Inputs.{declared_cell as number_of, text_fits as text_fits_cell, tokens_of, Denotes};
 ghost use Rattle.trace_text.specs.Refusals.{RefusesField};
-ghost use Rattle.trace_text.specs.Tellings.{TellsPiece};
+ghost use Rattle.trace_text.specs.Tellings.{TellsField};
 
 use crate::fault::LineFault;
 use crate::telling::tell_written;
@@ -32,15 +32,15 @@ fn text_fits(cell: Cell, written: Written) -> bool
         }
 }
 
-/// Reads a piece that stands at this offset: the number of its cell, and what is written of it.
-fn read_field(program: &Program, piece: &[u8], offset: u32) -> Result<(u32, Written), LineFault>
-    ensures said { IfOk result (λ read. Denotes program.now piece.now (tokens_of read.0 read.1)) }
-    ensures refused { IfErr result (RefusesField program.now (record { offset = offset; bytes = piece.now })) }
+/// Reads a field that stands at this offset: the number of its cell, and what is written of it.
+fn read_field(program: &Program, field: &[u8], offset: u32) -> Result<(u32, Written), LineFault>
+    ensures said { IfOk result (λ read. Denotes program.now field.now (tokens_of read.0 read.1)) }
+    ensures refused { IfErr result (RefusesField program.now (record { offset = offset; bytes = field.now })) }
 {
-    let Ok(written) = read_token(piece) else {
+    let Ok(written) = read_token(field) else {
         return Err(LineFault::BadToken { offset });
     };
-    let name = &piece[written.name_start..written.name_end];
+    let name = &field[written.name_start..written.name_end];
     let Some(cell) = cell_named(program, name) else {
         return Err(LineFault::UnknownName { offset });
     };
@@ -50,18 +50,18 @@ fn read_field(program: &Program, piece: &[u8], offset: u32) -> Result<(u32, Writ
     Ok((cell as u32, written))
 }
 
-/// Reads a piece that stands at this offset, and tells its tokens.
+/// Reads a field that stands at this offset, and tells its tokens.
 pub fn tell_field(
     program: &Program,
-    piece: &[u8],
+    field: &[u8],
     offset: u32,
     store: &mut Store,
 ) -> Result<(), LineFault>
     requires store { IsStore program.now store.old }
-    ensures told { OnOk result (TellsPiece program.now piece.now store.old store.new) }
-    ensures refused { IfErr result (RefusesField program.now (record { offset = offset; bytes = piece.now })) }
+    ensures told { OnOk result (TellsField program.now field.now store.old store.new) }
+    ensures refused { IfErr result (RefusesField program.now (record { offset = offset; bytes = field.now })) }
 {
-    let (cell, written) = read_field(program, piece, offset)?;
+    let (cell, written) = read_field(program, field, offset)?;
     tell_written(program, cell, written, store)?;
     Ok(())
 }
