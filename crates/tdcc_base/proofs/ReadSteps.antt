@@ -98,7 +98,7 @@ module _ {S : Type 0} (gives : ReadRule S) (before after : ReadAhead) (old new :
     takes = sym (ap (λ xs. xs ++ pending after) none);
   }
 
-last_for : {S : Type 0} (gives : ReadRule S) (N M : Type 0) (was now fails : Bool) (old new : S) → (N → M) → LastRead gives N was now fails old new → LastRead gives M was now fails old new
+pub last_for : {S : Type 0} (gives : ReadRule S) (N M : Type 0) (was now fails : Bool) (old new : S) → (N → M) → LastRead gives N was now fails old new → LastRead gives M was now fails old new
 last_for gives N M true now fails old new f r = r
 last_for gives N M false true fails old new f r = (r.0, f r.1)
 last_for gives N M false false true old new f r = (r.0, f r.1)

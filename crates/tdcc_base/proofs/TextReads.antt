@@ -12,7 +12,7 @@ use Rattle.tdcc_base.specs.declared.stops.TextEnd.{TextEnd}
 use Rattle.tdcc_base.specs.declared.stops.TextEnd.TheVariants as text_ends
 use Rattle.tdcc_base.specs.declared.stops.ReadStop.{ReadStop}
 use Rattle.tdcc_base.specs.Limits.{room_for_text}
-use Rattle.tdcc_base.specs.Lines.{HasNoFeed, IsOpenLine, ReadsLine}
+use Rattle.tdcc_base.specs.Lines.{IsOpenLine, ReadsLine}
 use Rattle.tdcc_base.specs.Reads.{ReadRule, ReadsOf, ReadsForLine, ReadsForText, TakesFeed, TakesMark, is_read_fault}
 use Rattle.tdcc_base.specs.Texts.{is_mark, IsTextSoFar, ReadsText}
 use Rattle.tdcc_base.specs.Unread.{pending, AppendsLine}
@@ -55,7 +55,7 @@ mark_taken bytes left done after limit brk true over mark a = tt
 mark_taken bytes left done after limit breaks.End false over mark a = absurd (let h = over refl in cc)
 mark_taken bytes left done after limit breaks.Feed false over mark a =
     let line : drop (length done) after ≡ a.line = ap (drop (length done)) a.appended ∙ drop_at done a.line (length done) refl in
-    (a.line, ap is_mark (sym line) ∙ mark, ap (λ (xs : List ℕ). done ++ xs) (a.taken ∙ append_assoc a.line (10 ∷ []) left) ∙ sym (append_assoc done a.line (10 ∷ left)))
+    (a.line, a.no_feed, ap is_mark (sym line) ∙ mark, ap (λ (xs : List ℕ). done ++ xs) (a.taken ∙ append_assoc a.line (10 ∷ []) left) ∙ sym (append_assoc done a.line (10 ∷ left)))
 
 -- whole lines with no mark, and a prefix of a line
 so_far : (done : List ℕ) → IsTextFront done → length done ≤ room_for_text → (bytes : List ℕ) → IsOpenLine (room_for_text - length done) bytes → IsTextSoFar (done ++ bytes)

@@ -9,7 +9,7 @@ use Rattle.tdcc_base.specs.declared.stops.TextEnd.TheVariants as text_ends
 use Rattle.tdcc_base.specs.declared.stops.ReadStop.{ReadStop}
 use Rattle.tdcc_base.specs.declared.stops.ReadStop.TheVariants as stops
 use Rattle.tdcc_base.specs.Limits.{read_size}
-use Rattle.tdcc_base.specs.Lines.{IsOpenLine, ReadsLine}
+use Rattle.tdcc_base.specs.Lines.{HasNoFeed, IsOpenLine, ReadsLine}
 use Rattle.tdcc_base.specs.Texts.{is_mark, IsTextSoFar, ReadsText}
 use Rattle.tdcc_base.specs.Unread.{pending, Gave}
 
@@ -87,7 +87,7 @@ TakesFeed _ _ line bytes left = Unit {0}
 
 -- the text that was read was taken with the mark behind it and the mark's line feed, unless the source has ended
 abbrev pub TakesMark : Result TextEnd ReadStop → Bool → List ℕ → List ℕ → List ℕ → Type 0
-TakesMark (Ok text_ends.Mark) false text bytes left = (mark : List ℕ) × (is_mark mark ≡ true) × (bytes ≡ text ++ mark ++ 10 ∷ left)
+TakesMark (Ok text_ends.Mark) false text bytes left = (mark : List ℕ) × HasNoFeed mark × (is_mark mark ≡ true) × (bytes ≡ text ++ mark ++ 10 ∷ left)
 TakesMark _ _ text bytes left = Unit {0}
 
 -- The reads for a line: none where a line feed, or more than a line may have, stands in what is there already. The line
