@@ -30,10 +30,10 @@ use Rattle.agent_laws.proofs.Instance.{GuardFits, LeafFits, system, below_of, of
 
 -- WHAT LEAVES NAME FITS
 
-abbrev Named : CoreProgram → Leaf → Type 0
+abbrev pub Named : CoreProgram → Leaf → Type 0
 Named p l = ConstraintFits p l.births (tells l.agent) × Each (GuardFits p) l.path
 
-leaves-named : (p : CoreProgram) (t : ℕ) (a : Agent) (n : ℕ) (b : List ℕ) (path : List Guard) → AgentFits p t a b → Each (GuardFits p) path → Each (Named p) (leaves_of t a n b path)
+pub leaves-named : (p : CoreProgram) (t : ℕ) (a : Agent) (n : ℕ) (b : List ℕ) (path : List Guard) → AgentFits p t a b → Each (GuardFits p) path → Each (Named p) (leaves_of t a n b path)
 leaves-named p t Skip n b path f g = ((tt, g), tt)
 leaves-named p t (Tell c) n b path f g = ((f, g), tt)
 leaves-named p t (Hence a) n b path f g = ((tt, g), tt)
@@ -46,7 +46,7 @@ leaves-named p t (New cell a) n b path f g = leaves-named p t a (suc n) (b ++ t 
 
 -- THE TEST OF A LEAF, AND THE FACTS THAT IT STANDS FOR
 
-path_facts : (f a b x y : Bool) → IsTrue (path_rests f a b x y) → not f ≡ false → (IsTrue a → IsTrue x) × (IsTrue b → IsTrue y)
+pub path_facts : (f a b x y : Bool) → IsTrue (path_rests f a b x y) → not f ≡ false → (IsTrue a → IsTrue x) × (IsTrue b → IsTrue y)
 path_facts false a b x y h e = absurd (true_false e)
 path_facts true false false x y h e = (λ i. absurd (true_false (sym i)), λ i. absurd (true_false (sym i)))
 path_facts true true false true y h e = (λ i. refl, λ i. absurd (true_false (sym i)))
@@ -55,7 +55,7 @@ path_facts true false true x y h e = (λ i. absurd (true_false (sym i)), λ i. h
 path_facts true true true true y h e = (λ i. refl, λ i. h)
 path_facts true true true false y h e = absurd (true_false (sym h))
 
-path_test : (f a b x y : Bool) → (not f ≡ false → (IsTrue a → IsTrue x) × (IsTrue b → IsTrue y)) → IsTrue (path_rests f a b x y)
+pub path_test : (f a b x y : Bool) → (not f ≡ false → (IsTrue a → IsTrue x) × (IsTrue b → IsTrue y)) → IsTrue (path_rests f a b x y)
 path_test false a b x y h = refl
 path_test true a b x y h = go a b x y (h refl)
   where

@@ -41,10 +41,10 @@ a_with_a = simp (get-insert {X = Value} name_total) (refl {a = true})
 told_alone : (n : CellName) (d : CellDecl) → value_at nothing n d.cell ≡ bottom_of d.cell
 told_alone n d = ap (λ o. unwrap_or o (bottom_of d.cell)) (get-empty name_cmp n)
 
-tell_a : after_tell nothing (Declared 0) a_decl.cell On ≡ only_a
+pub tell_a : after_tell nothing (Declared 0) a_decl.cell On ≡ only_a
 tell_a = ap (λ (v : Value). stored nothing (Declared 0) a_decl.cell (value_with v On)) (told_alone (Declared 0) a_decl)
 
-tell_b : after_tell nothing (Declared 1) (signal 98).cell On ≡ only_b
+pub tell_b : after_tell nothing (Declared 1) (signal 98).cell On ≡ only_b
 tell_b = ap (λ (v : Value). stored nothing (Declared 1) (signal 98).cell (value_with v On)) (told_alone (Declared 1) (signal 98))
 
 nothing-store : IsStore by_default nothing

@@ -1,0 +1,4 @@
+pub mod Certified
+pub mod Growing
+pub mod CertifiedRuns
+pub mod Samples
