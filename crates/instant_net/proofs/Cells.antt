@@ -1,5 +1,5 @@
 -- Cells in a row, and the cells of a net in their order.
-use Rattle.std.proofs.Common.{◌≡◌, ℕ, zero, suc, ◌<◌, ◌≤◌, Bool, List, [], ◌∷◌, ◌++◌, length, get_or, Some, None, refl, sym, ap, ◌∙◌, subst, arith, length-append, ◌⊎◌, inl, inr}
+use Rattle.std.proofs.Common.{◌≡◌, ℕ, zero, suc, ◌+◌, ◌<◌, ◌≤◌, Bool, List, [], ◌∷◌, ◌++◌, length, get_or, Some, None, refl, sym, ap, ◌∙◌, subst, arith, length-append, ◌⊎◌, inl, inr}
 use Rattle.std.specs.Prelude.{All, Contains, map, flat_map, slice_get, slice_index, cond, ◌==◌}
 use Rattle.std.specs.Ordering.{nat_cmp}
 use Rattle.std.specs.declared.cmp.Ordering.TheVariants.{Less, Equal, Greater}
@@ -18,6 +18,7 @@ use Rattle.agent_laws.specs.Ways.{new_cell, cell_named}
 use Rattle.instant_net.specs.declared.parts.NetCell.{NetCell}
 use Rattle.instant_net.specs.NamedLeaves.{NamedLeaf, names_of}
 use Rattle.instant_net.specs.Opened.{IsCellOf, AreInOrder}
+use Rattle.instant_net.specs.Limits.{most_instant_cells}
 use Rattle.instant_net.specs.Words.{AreLaidOut}
 use Rattle.instant_net.specs.Collecting.{IsLocal, IsSpokenBy, cell_names, declared_names, unplaced, IsRow, AreCellsFor}
 use Rattle.instant_net.proofs.Counts.{length-map}
@@ -32,6 +33,10 @@ named-cell p (Declared n) d named = named.1
 named-cell p (Local m births) d (cell, body, new, found, long) =
     let same : new_cell (slice_get p.nodes m) ≡ cell = ap new_cell new in
     ap (slice_get p.cells) same ∙ found
+
+-- a row has a cell for each of its names
+pub names-count : (cells : List NetCell) (names : List CellName) → cell_names cells ≡ names → length cells ≡ length names
+names-count cells names same = sym (length-map (λ (c : NetCell). c.name) cells) ∙ ap length same
 
 -- the cell that is made of a name, its declaration and its level
 pub cell-is : (p : CoreProgram) (table : List ℕ) (all : List CellDecl) (levels : List ℕ) (n : CellName) (cell k : ℕ) (x : CellDecl) → ((d : CellDecl) × Names p n d) → cell ≡ cell_named p n → all ≡ p.cells → levels ≡ table
@@ -97,7 +102,7 @@ all-in_order p (suc n) names all h = joined (declared_names n) (Declared n) name
 
 -- WHICH CELLS THERE ARE
 
-length-declared : (n : ℕ) → length (declared_names n) ≡ n
+pub length-declared : (n : ℕ) → length (declared_names n) ≡ n
 length-declared zero = refl
 length-declared (suc n) = let h = length-declared n in omega (arith, length-append (declared_names n) (Declared n ∷ []))
 
@@ -164,13 +169,15 @@ placed-names cells laid same = sym (names-unplaced laid) ∙ ap cell_names same 
 
 -- the row of the declared cells and of the local ones that leaves speak of, laid out
 pub cells-are : (p : CoreProgram) (table : List ℕ) (ls : List NamedLeaf) (cells laid : List NetCell) (names : List CellName) → IsWellFormed p → IsRow p table cells → cell_names cells ≡ declared_names p.declared ++ names
-    → All (IsSpokenBy p ls) names → IsStrictlySortedBy name_cmp names → length cells < 2147483648 → AreLaidOut laid → map unplaced laid ≡ map unplaced cells → AreCellsFor p table ls laid
+    → All (IsSpokenBy p ls) names → IsStrictlySortedBy name_cmp names → p.declared + length names ≤ most_instant_cells → AreLaidOut laid → map unplaced laid ≡ map unplaced cells → AreCellsFor p table ls laid
 cells-are p table ls cells laid names is row named spoken order few places unmoved =
     let same : cell_names laid ≡ declared_names p.declared ++ names = placed-names cells laid unmoved ∙ named in
     let P : CellName → Type 0 = λ q. ((k : ℕ) × (q ≡ Declared k)) ⊎ Contains (flat_map names_of ls) q in
     let locals : All (IsLocal p) names = All-weaker (IsSpokenBy p ls) (IsLocal p) (λ q h. h.local) names spoken in
     let each : All P names = All-weaker (IsSpokenBy p ls) P (λ q h. inr h.spoken) names spoken in
-    let long : length laid ≡ length cells = sym (length-map unplaced laid) ∙ ap length unmoved ∙ length-map unplaced cells in
+    let long = names-count laid (declared_names p.declared ++ names) same in
+    let both = length-append (declared_names p.declared) names in
+    let declared = length-declared p.declared in
     let words = hows_few laid in
     record {
       program = is;

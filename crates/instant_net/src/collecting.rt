@@ -1,5 +1,6 @@
 //! The cells of an instant: the declared ones, and the local ones that its leaves speak of.
-ghost use Rattle.std.specs.Prelude.{◌≡◌, ℕ, ◌++◌, ◌∷◌, [], All, IfOk, length};
+ghost use Rattle.std.specs.Prelude.{◌≡◌, ℕ, ◌≤◌, ◌++◌, ◌∷◌, [], All, IfOk, length};
+ghost use Rattle.instant_net.specs.Limits.{most_roots};
 ghost use Rattle.token_system.specs.Names.{name_cmp};
 ghost use Rattle.agent_core.specs.declared.node.CellDecl.{CellDecl};
 ghost use Rattle.agent_core.specs.WellFormed.{IsWellFormed};
@@ -18,12 +19,9 @@ use crate::layout::lay_out;
 use crate::locals::{Local, local_of};
 use crate::parts::NetCell;
 use agent_core::{Closure, Constraint, Levels, Node, Program};
-use std::alloc::{AllocError, Global};
+use std::alloc::Global;
 use std::collections::BTreeSet;
 use token_system::{Births, CellName, Memory};
-
-/// So many cells have words that 32 bits can number. More find no memory.
-const MOST_CELLS: usize = 2_147_483_647;
 
 /// What names are collected by: the program, its local cells, and the instant.
 #[derive(Clone, Copy)]
@@ -213,6 +211,7 @@ pub(crate) fn net_cells(
     requires locals { AreLocalsOf program.now locals.now }
     requires levels { length levels.now ≡ length program.now.cells }
     requires closures { AreClosures program.now roots.now }
+    requires few { length roots.now ≤ most_roots }
     ensures cells { IfOk result (λ cells. AreCellsFor program.now levels.now (root_leaves program.now roots.now t) cells.items) }
     ensures covered { IfOk result (λ cells. RootsCovered program.now t (cell_names cells.items) roots.now) }
 {
@@ -222,9 +221,6 @@ pub(crate) fn net_cells(
     };
     row.add_declared(program, levels)?;
     row.add_locals(program, levels, names)?;
-    if row.cells.len() > MOST_CELLS {
-        return Err(AllocError);
-    }
     lay_out(&mut row.cells);
     Ok(row.cells)
 }
