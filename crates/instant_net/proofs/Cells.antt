@@ -1,16 +1,12 @@
 -- Cells in a row, and the cells of a net in their order.
-use Rattle.std.proofs.Common.{◌≡◌, ℕ, zero, suc, ◌+◌, ◌*◌, ◌<◌, ◌≤◌, Bool, List, [], ◌∷◌, ◌++◌, length, get_or, Some, None, refl, sym, ap, ◌∙◌, subst, arith, length-append, ◌⊎◌, inl, inr}
-use Rattle.std.specs.Prelude.{All, Contains, flat_map, slice_get, slice_index, cond, ◌==◌}
+use Rattle.std.proofs.Common.{◌≡◌, ℕ, zero, suc, ◌+◌, ◌<◌, ◌≤◌, Bool, List, [], ◌∷◌, ◌++◌, length, get_or, Some, None, refl, sym, ap, ◌∙◌, subst, arith, length-append, ◌⊎◌, inl, inr}
+use Rattle.std.specs.Prelude.{All, Contains, map, flat_map, slice_get, slice_index, cond, ◌==◌}
 use Rattle.std.specs.Ordering.{nat_cmp}
 use Rattle.std.specs.declared.cmp.Ordering.TheVariants.{Less, Equal, Greater}
 use Rattle.std.specs.List.Sorted.{IsStrictlySortedBy}
 use Rattle.std.proofs.lemmas.Bool.{lt-ltb}
-use Rattle.std.proofs.lemmas.List.{append-nil}
-use Rattle.std.proofs.lemmas.Grind.{flat_map-append}
-use Rattle.std.proofs.lemmas.List.Elements.{All-push, All-append, All-same, All-weaker, All-nil}
+use Rattle.std.proofs.lemmas.List.Elements.{All-cons, All-head, All-tail, All-push, All-append, All-same, All-weaker, All-nil}
 use Rattle.std.proofs.lemmas.Option.{get_or_from_slice_get, slice_get_cases}
-use Rattle.token_system.specs.declared.cell.Kind.{Kind}
-use Rattle.token_system.specs.declared.cell.Kind.TheVariants.{Signal, Number}
 use Rattle.token_system.specs.declared.name.CellName.{CellName}
 use Rattle.token_system.specs.declared.name.CellName.TheVariants.{Declared, Local}
 use Rattle.token_system.specs.Names.{name_cmp}
@@ -23,18 +19,13 @@ use Rattle.instant_net.specs.declared.parts.NetCell.{NetCell}
 use Rattle.instant_net.specs.NamedLeaves.{NamedLeaf, names_of}
 use Rattle.instant_net.specs.Opened.{IsCellOf, AreInOrder}
 use Rattle.instant_net.specs.Limits.{most_instant_cells}
-use Rattle.instant_net.specs.Words.{AreLaidOut, hows, kind_hows}
-use Rattle.instant_net.specs.Collecting.{IsLocal, IsSpokenBy, cell_names, declared_names, IsRow, AreCellsFor}
+use Rattle.instant_net.specs.Words.{AreLaidOut}
+use Rattle.instant_net.specs.Collecting.{IsLocal, IsSpokenBy, cell_names, declared_names, unplaced, IsRow, AreCellsFor}
 use Rattle.instant_net.proofs.Counts.{length-map}
 use Rattle.instant_net.proofs.Lists.{get-left, get-right}
+use Rattle.instant_net.proofs.WordPlaces.{hows_few}
 
 -- A ROW
-
-laid_out-more : (k : ℕ) (cells : List NetCell) (c : NetCell) → AreLaidOut k cells → c.first ≡ k + length (hows cells) → AreLaidOut k (cells ++ c ∷ [])
-laid_out-more k [] c h e = ((let f : c.first ≡ k = omega arith in f), tt)
-laid_out-more k (d ∷ cells) c h e =
-    let long = length-append (kind_hows d.cell.kind) (hows cells) in
-    (h.0, laid_out-more (k + length (kind_hows d.cell.kind)) cells c h.1 (omega arith))
 
 -- the cell of a name, by its number
 pub named-cell : (p : CoreProgram) (n : CellName) (d : CellDecl) → Names p n d → slice_get p.cells (cell_named p n) ≡ Some d
@@ -47,44 +38,10 @@ named-cell p (Local m births) d (cell, body, new, found, long) =
 pub names-count : (cells : List NetCell) (names : List CellName) → cell_names cells ≡ names → length cells ≡ length names
 names-count cells names same = sym (length-map (λ (c : NetCell). c.name) cells) ∙ ap length same
 
-kind_hows-few : (k : Kind) → length (kind_hows k) ≤ 2
-kind_hows-few Signal = omega arith
-kind_hows-few Number = omega arith
-
-hows-few : (cells : List NetCell) → length (hows cells) ≤ 2 * length cells
-hows-few [] = omega arith
-hows-few (c ∷ cells) =
-    let here = kind_hows-few c.cell.kind in
-    let rest = hows-few cells in
-    let both = length-append (kind_hows c.cell.kind) (hows cells) in
-    omega arith
-
--- the words of one more cell can be numbered
-pub row-room : (p : CoreProgram) (table : List ℕ) (cells : List NetCell) (words more : ℕ) (k : Kind) → IsRow p table cells words → length cells < most_instant_cells → more ≡ length (kind_hows k) → words + more < 4294967296
-row-room p table cells words more k h few e =
-    let at = h.words_are in
-    let here = kind_hows-few k in
-    let all = hows-few cells in
-    omega arith
-
-pub row-next : (p : CoreProgram) (table : List ℕ) (cells cells' : List NetCell) (words more : ℕ) (c : NetCell) → IsRow p table cells words → IsCellOf p table c → c.first ≡ words → more ≡ length (kind_hows c.cell.kind)
-    → words + more < 4294967296 → cells' ≡ cells ++ c ∷ [] → IsRow p table cells' (words + more)
-row-next p table cells cells' words more c h one first e few es =
-    let at = h.words_are in
-    let long : length (hows (cells ++ c ∷ [])) ≡ length (hows cells) + length (kind_hows c.cell.kind) =
-    ap length (flat_map-append (λ (x : NetCell). kind_hows x.cell.kind) cells (c ∷ []))
-    ∙ length-append (hows cells) (kind_hows c.cell.kind ++ []) ∙ ap (λ xs. length (hows cells) + length xs) (append-nil (kind_hows c.cell.kind)) in
-    subst (λ xs. IsRow p table xs (words + more)) (sym es) (record {
-      each = All-push (IsCellOf p table) cells c h.each one;
-      laid_out = laid_out-more 0 cells c h.laid_out (omega arith);
-      words_are = omega arith;
-      few_words = few;
-    })
-
 -- the cell that is made of a name, its declaration and its level
-pub cell-is : (p : CoreProgram) (table : List ℕ) (all : List CellDecl) (levels : List ℕ) (n : CellName) (cell k first : ℕ) (x : CellDecl) → ((d : CellDecl) × Names p n d) → cell ≡ cell_named p n → all ≡ p.cells → levels ≡ table
-    → x ≡ get_or all cell x → k ≡ slice_index levels cell → IsCellOf p table (record { name = n; cell = x.cell; stratum = k; first = first })
-cell-is p table all levels n cell k first x named number same same_levels read level =
+pub cell-is : (p : CoreProgram) (table : List ℕ) (all : List CellDecl) (levels : List ℕ) (n : CellName) (cell k : ℕ) (x : CellDecl) → ((d : CellDecl) × Names p n d) → cell ≡ cell_named p n → all ≡ p.cells → levels ≡ table
+    → x ≡ get_or all cell x → k ≡ slice_index levels cell → IsCellOf p table (record { name = n; cell = x.cell; stratum = k; first = 0; word = 0 })
+cell-is p table all levels n cell k x named number same same_levels read level =
     let found : slice_get p.cells cell ≡ Some named.0 = ap (slice_get p.cells) number ∙ named-cell p n named.0 named.1 in
     let one : x ≡ named.0 = read ∙ ap (λ xs. get_or xs cell x) same ∙ get_or_from_slice_get p.cells cell named.0 x found in
     record {
@@ -180,25 +137,55 @@ declared-each : (ls : List NamedLeaf) (n : ℕ) → All (λ q. ((k : ℕ) × (q 
 declared-each ls zero = All-nil (λ q. ((k : ℕ) × (q ≡ Declared k)) ⊎ Contains (flat_map names_of ls) q)
 declared-each ls (suc n) = All-push (λ q. ((k : ℕ) × (q ≡ Declared k)) ⊎ Contains (flat_map names_of ls) q) (declared_names n) (Declared n) (declared-each ls n) (inl (n, refl))
 
--- the row of the declared cells and of the local ones that leaves speak of
-pub cells-are : (p : CoreProgram) (table : List ℕ) (ls : List NamedLeaf) (cells : List NetCell) (words : ℕ) (names : List CellName) → IsWellFormed p → IsRow p table cells words → cell_names cells ≡ declared_names p.declared ++ names
-    → All (IsSpokenBy p ls) names → IsStrictlySortedBy name_cmp names → p.declared + length names ≤ most_instant_cells → AreCellsFor p table ls cells
-cells-are p table ls cells words names is row same spoken order few =
+-- CELLS THAT ARE LAID OUT
+
+first_of : {X : Type 0} (x y : X) (xs ys : List X) → x ∷ xs ≡ y ∷ ys → x ≡ y
+first_of x y xs ys e = cc
+
+rest_of : {X : Type 0} (x y : X) (xs ys : List X) → x ∷ xs ≡ y ∷ ys → xs ≡ ys
+rest_of x y xs ys e = cc
+
+-- a cell is that of its name wherever it stands in the words
+placed-cell : (p : CoreProgram) (table : List ℕ) (c d : NetCell) → unplaced d ≡ unplaced c → IsCellOf p table c → IsCellOf p table d
+placed-cell p table c d same is =
+    let without : IsCellOf p table (unplaced c) = record { decl = is.decl; named = is.named; cell = is.cell; stratum = is.stratum } in
+    let moved = subst (IsCellOf p table) (sym same) without in
+    record { decl = moved.decl; named = moved.named; cell = moved.cell; stratum = moved.stratum }
+
+placed-cells : (p : CoreProgram) (table : List ℕ) (cells laid : List NetCell) → map unplaced laid ≡ map unplaced cells → All (IsCellOf p table) cells → All (IsCellOf p table) laid
+placed-cells p table [] [] same h = h
+placed-cells p table [] (d ∷ laid) same h = absurd (cc)
+placed-cells p table (c ∷ cells) [] same h = absurd (cc)
+placed-cells p table (c ∷ cells) (d ∷ laid) same h =
+    All-cons (IsCellOf p table) d laid (placed-cell p table c d (first_of (unplaced d) (unplaced c) (map unplaced laid) (map unplaced cells) same) (All-head (IsCellOf p table) c cells h))
+    (placed-cells p table cells laid (rest_of (unplaced d) (unplaced c) (map unplaced laid) (map unplaced cells) same) (All-tail (IsCellOf p table) c cells h))
+
+names-unplaced : (cells : List NetCell) → cell_names (map unplaced cells) ≡ cell_names cells
+names-unplaced [] = refl
+names-unplaced (c ∷ cells) = ap (λ ns. c.name ∷ ns) (names-unplaced cells)
+
+pub placed-names : (cells laid : List NetCell) → map unplaced laid ≡ map unplaced cells → cell_names laid ≡ cell_names cells
+placed-names cells laid same = sym (names-unplaced laid) ∙ ap cell_names same ∙ names-unplaced cells
+
+-- the row of the declared cells and of the local ones that leaves speak of, laid out
+pub cells-are : (p : CoreProgram) (table : List ℕ) (ls : List NamedLeaf) (cells laid : List NetCell) (names : List CellName) → IsWellFormed p → IsRow p table cells → cell_names cells ≡ declared_names p.declared ++ names
+    → All (IsSpokenBy p ls) names → IsStrictlySortedBy name_cmp names → p.declared + length names ≤ most_instant_cells → AreLaidOut laid → map unplaced laid ≡ map unplaced cells → AreCellsFor p table ls laid
+cells-are p table ls cells laid names is row named spoken order few places unmoved =
+    let same : cell_names laid ≡ declared_names p.declared ++ names = placed-names cells laid unmoved ∙ named in
     let P : CellName → Type 0 = λ q. ((k : ℕ) × (q ≡ Declared k)) ⊎ Contains (flat_map names_of ls) q in
     let locals : All (IsLocal p) names = All-weaker (IsSpokenBy p ls) (IsLocal p) (λ q h. h.local) names spoken in
     let each : All P names = All-weaker (IsSpokenBy p ls) P (λ q h. inr h.spoken) names spoken in
-    let at = row.words_are in
-    let most = row.few_words in
-    let here = names-count cells (declared_names p.declared ++ names) same in
+    let long = names-count laid (declared_names p.declared ++ names) same in
     let both = length-append (declared_names p.declared) names in
     let declared = length-declared p.declared in
+    let words = hows_few laid in
     record {
       program = is;
-      each = row.each;
-      order = cells-in_order cells (subst InOrder (sym same) (all-in_order p p.declared names locals (sorted-in_order names order)));
-      laid_out = row.laid_out;
-      declared = λ k lt. named-at cells k (Declared k) (ap (λ xs. slice_get xs k) same ∙ get-left (declared_names p.declared) names k (Declared k) (declared-at p.declared k lt));
-      spoken = all-unmap P cells (All-same P (cell_names cells) (declared_names p.declared ++ names) same (All-append P (declared_names p.declared) names (declared-each ls p.declared) each));
+      each = placed-cells p table cells laid unmoved row;
+      order = cells-in_order laid (subst InOrder (sym same) (all-in_order p p.declared names locals (sorted-in_order names order)));
+      laid_out = places;
+      declared = λ k lt. named-at laid k (Declared k) (ap (λ xs. slice_get xs k) same ∙ get-left (declared_names p.declared) names k (Declared k) (declared-at p.declared k lt));
+      spoken = all-unmap P laid (All-same P (cell_names laid) (declared_names p.declared ++ names) same (All-append P (declared_names p.declared) names (declared-each ls p.declared) each));
       few = omega arith;
       few_words = omega arith;
     }

@@ -1,30 +1,21 @@
 -- What is kept in a store: values of different names in any order, and those of a net's cells one after the other.
-use Rattle.std.proofs.Common.{◌≡◌, ◌≢◌, ℕ, zero, suc, ◌+◌, ◌<◌, List, [], ◌∷◌, ◌++◌, take, Bool, true, false, cond, Option, Some, None, IfSome, refl, sym, ap, ◌∙◌, subst, arith}
-use Rattle.std.specs.Prelude.{slice_get, option_map, unwrap_or, ℤ, ◌≤ℤ◌, IsTrue, int_le, int_lt}
+use Rattle.std.proofs.Common.{◌≡◌, ◌≢◌, ℕ, zero, suc, ◌+◌, ◌<◌, List, [], ◌∷◌, ◌++◌, take, Bool, true, false, cond, Option, Some, None, refl, sym, ap, ◌∙◌, arith}
+use Rattle.std.specs.Prelude.{slice_get, option_map}
 use Rattle.std.specs.FinMap.{get, insert, get-insert, same_map}
 use Rattle.std.specs.Ordering.{eq_by_cmp}
-use Rattle.std.proofs.lemmas.Int.{ints}
 use Rattle.token_system.specs.declared.cell.Cell.{Cell}
-use Rattle.token_system.specs.declared.cell.Kind.{Kind}
-use Rattle.token_system.specs.declared.cell.Kind.TheVariants.{Signal, Number}
-use Rattle.token_system.specs.declared.cell.Token.TheVariants.{AtLeast, AtMost}
 use Rattle.token_system.specs.declared.cell.Value.{Value}
-use Rattle.token_system.specs.declared.cell.Value.TheVariants as values
 use Rattle.token_system.specs.declared.name.CellName.{CellName}
 use Rattle.token_system.specs.Names.{name_cmp, name_total, name_cmp-IsAntisymmetric}
-use Rattle.token_system.specs.Domain.{is_bound, is_cell}
-use Rattle.token_system.specs.Tokens.{Fits, fits_kind}
-use Rattle.token_system.specs.Values.{bottom_of, bottom_for, value_with, value_eq, IsValueOf, IsProper, OfOneKind, WithinDomain}
-use Rattle.token_system.specs.Stores.{StoreMap, value_at, stored, after_tell, IsKeptFor, CanHold}
-use Rattle.token_system.proofs.Alike.{true_false, within_bound}
-use Rattle.token_system.proofs.Adding.{value_eq-true, value_eq-itself}
-use Rattle.token_system.proofs.Telling.{equal_names, value_at-told}
+use Rattle.token_system.specs.Values.{bottom_of, value_eq}
+use Rattle.token_system.specs.Stores.{StoreMap, stored}
+use Rattle.token_system.proofs.Telling.{equal_names}
 use Rattle.instant_net.specs.declared.parts.NetCell.{NetCell}
 use Rattle.instant_net.specs.Words.{value_in, store_in}
 use Rattle.std.proofs.lemmas.List.{take_more}
 use Rattle.std.proofs.lemmas.Option.{slice_get_within, get_or_from_slice_get}
 use Rattle.instant_net.specs.Opened.{AreInOrder}
-use Rattle.instant_net.proofs.StoreLookups.{HasNone, names_apart, get-none}
+use Rattle.instant_net.proofs.StoreLookups.{HasNone, names_apart}
 
 -- IN ANY ORDER
 
@@ -72,6 +63,13 @@ place_read cells k name cell f e = go (slice_get cells k) refl f e
     go : (o : Option NetCell) → slice_get cells k ≡ o → option_map (λ c. c.name) o ≡ Some name → option_map (λ c. c.cell) o ≡ Some cell → IsNamed cells k name cell
     go None s f e = absurd (cc)
     go (Some c) s f e = record { found = c; at = s; same_name = cc; same_cell = cc }
+
+pub cell_read : (cells : List NetCell) (k : ℕ) (cell : Cell) → option_map (λ c. c.cell) (slice_get cells k) ≡ Some cell → (c : NetCell) × (slice_get cells k ≡ Some c) × (c.cell ≡ cell)
+cell_read cells k cell e = go (slice_get cells k) refl e
+  where
+    go : (o : Option NetCell) → slice_get cells k ≡ o → option_map (λ c. c.cell) o ≡ Some cell → (c : NetCell) × (slice_get cells k ≡ Some c) × (c.cell ≡ cell)
+    go None s e = absurd (cc)
+    go (Some c) s e = (c, s, cc)
 
 -- none of the cells before has the name of this one
 taken : (cells : List NetCell) (k j : ℕ) (d : NetCell) → slice_get (take k cells) j ≡ Some d → (j < k) × (slice_get cells j ≡ Some d)

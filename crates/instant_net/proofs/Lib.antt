@@ -17,6 +17,8 @@ pub mod NetRests
 pub mod NetPaths
 pub mod NetStrata
 pub mod NetOutputs
+pub mod PartTells
+pub mod Layouts
 pub mod WordPlaces
 pub mod WordOrders
 pub mod WordValues

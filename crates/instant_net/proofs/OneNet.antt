@@ -1,6 +1,6 @@
 -- Roots have one net at an instant: its cells, guards and leaves are what their names, their asks and kinds, and their links say.
 use Rattle.std.proofs.Common.{◌≡◌, ℕ, zero, suc, ◌+◌, ◌<◌, ◌≤◌, List, [], ◌∷◌, ◌++◌, length, map, Some, None, refl, sym, ap, ◌∙◌, subst, arith, ◌⊎◌, inl, inr}
-use Rattle.std.specs.Prelude.{Option, All, Contains, flat_map, slice_get, slice_index, slice_index_or}
+use Rattle.std.specs.Prelude.{Option, All, Contains, flat_map, slice_get, slice_index, slice_index_or, if◌then◌else◌}
 use Rattle.std.specs.declared.cmp.Ordering.TheVariants.{Less}
 use Rattle.std.proofs.lemmas.List.Elements.{All-contains}
 use Rattle.token_system.specs.declared.name.CellName.{CellName}
@@ -22,18 +22,20 @@ use Rattle.instant_net.specs.declared.parts.NetGuard.{NetGuard}
 use Rattle.instant_net.specs.declared.parts.NetLeaf.{NetLeaf}
 use Rattle.instant_net.specs.declared.parts.LeafKind.{LeafKind}
 use Rattle.instant_net.specs.declared.parts.LeafKind.TheVariants as kinds
-use Rattle.instant_net.specs.NamedLeaves.{Named, NamedGuard, Kind, Tells, StartsHence, StartsNext, NamedLeaf, told_by, names_of}
+use Rattle.instant_net.specs.NamedLeaves.{Named, NamedGuard, Kind, NamedLeaf, told_by, names_of}
 use Rattle.instant_net.specs.Occurrences.{Occurrence}
 use Rattle.instant_net.specs.Nets.{Flat, AtomFits, named_at, named_atoms, named_guard, named_kind, named_leaf, named_occurrence, net_leaves, path_to, paths_from, atoms_of, IsLinkBelow}
 use Rattle.instant_net.specs.Links.{GuardLinks, links_of}
 use Rattle.instant_net.specs.Opened.{IsCellOf, AreInOrder, IsNetOf}
-use Rattle.instant_net.specs.Walks.{IsPlaceOfName}
-use Rattle.instant_net.specs.Words.{kind_hows, AreLaidOut}
+use Rattle.token_system.specs.declared.cell.Kind.{Kind as CellKind}
+use Rattle.token_system.specs.Tokens.{is_signal}
+use Rattle.instant_net.specs.WordParts.{word_of}
+use Rattle.instant_net.specs.Words.{own_hows, signals, AreLaidOutFrom}
 use Rattle.instant_net.specs.Collecting.{cell_names}
 use Rattle.instant_net.proofs.Lists.{same-elements, Contains-map, All-by_get}
 use Rattle.instant_net.proofs.CellPlaces.{has-place}
 use Rattle.instant_net.proofs.StoreLookups.{first_name, in_order_tail, less_differs, names_apart}
-use Rattle.instant_net.proofs.WordValues.{split}
+use Rattle.instant_net.proofs.PartTells.{split}
 
 -- NAMES IN ORDER
 
@@ -91,26 +93,43 @@ rest_of : {X : Type 0} (x y : X) (xs ys : List X) → x ∷ xs ≡ y ∷ ys → 
 rest_of x y xs ys e = cc
 
 module _ (p : CoreProgram) (table : List ℕ) where
-  one_cell : (c d : NetCell) → IsCellOf p table c → IsCellOf p table d → c.name ≡ d.name → c.first ≡ d.first → c ≡ d
-  one_cell c d x y same first =
+  one_cell : (c d : NetCell) → IsCellOf p table c → IsCellOf p table d → c.name ≡ d.name → c.first ≡ d.first → c.word ≡ d.word → c ≡ d
+  one_cell c d x y same first word =
       let decl : x.decl ≡ y.decl = Names-one p d.name x.decl y.decl (subst (λ (n : CellName). Names p n x.decl) same x.named) y.named in
       let cell : c.cell ≡ d.cell = x.cell ∙ ap (λ (z : CellDecl). z.cell) decl ∙ sym y.cell in
       let stratum : c.stratum ≡ d.stratum = x.stratum ∙ ap (λ (n : CellName). slice_index table (cell_named p n)) same ∙ sym y.stratum in
-      ap (λ (n : CellName). record { name = n; cell = c.cell; stratum = c.stratum; first = c.first }) same
-      ∙ ap (λ (z : Cell). record { name = d.name; cell = z; stratum = c.stratum; first = c.first }) cell
-      ∙ ap (λ (s : ℕ). record { name = d.name; cell = d.cell; stratum = s; first = c.first }) stratum
-      ∙ ap (λ (f : ℕ). record { name = d.name; cell = d.cell; stratum = d.stratum; first = f }) first
+      ap (λ (n : CellName). record { name = n; cell = c.cell; stratum = c.stratum; first = c.first; word = c.word }) same
+      ∙ ap (λ (z : Cell). record { name = d.name; cell = z; stratum = c.stratum; first = c.first; word = c.word }) cell
+      ∙ ap (λ (s : ℕ). record { name = d.name; cell = d.cell; stratum = s; first = c.first; word = c.word }) stratum
+      ∙ ap (λ (f : ℕ). record { name = d.name; cell = d.cell; stratum = d.stratum; first = f; word = c.word }) first
+      ∙ ap (λ (w : ℕ). record { name = d.name; cell = d.cell; stratum = d.stratum; first = d.first; word = w }) word
 
-  cells_same : (cells cells' : List NetCell) (k : ℕ) → Each (IsCellOf p table) cells → Each (IsCellOf p table) cells' → AreLaidOut k cells → AreLaidOut k cells' → cell_names cells ≡ cell_names cells' → cells ≡ cells'
-  cells_same [] [] k h h' l l' e = refl
-  cells_same [] (d ∷ ds) k h h' l l' e = absurd (cc)
-  cells_same (c ∷ cs) [] k h h' l l' e = absurd (cc)
-  cells_same (c ∷ cs) (d ∷ ds) k h h' l l' e =
-      let same : c ≡ d = one_cell c d h.0 h'.0 (first_of c.name d.name (cell_names cs) (cell_names ds) e) (l.0 ∙ sym l'.0) in
-      let wide : k + length (kind_hows c.cell.kind) ≡ k + length (kind_hows d.cell.kind) = ap (λ (x : NetCell). k + length (kind_hows x.cell.kind)) same in
+  one_kind : (c d : NetCell) → IsCellOf p table c → IsCellOf p table d → c.name ≡ d.name → c.cell.kind ≡ d.cell.kind
+  one_kind c d x y same =
+      let decl : x.decl ≡ y.decl = Names-one p d.name x.decl y.decl (subst (λ (n : CellName). Names p n x.decl) same x.named) y.named in
+      ap (λ (z : Cell). z.kind) (x.cell ∙ ap (λ (z : CellDecl). z.cell) decl ∙ sym y.cell)
+
+  signals_same : (cells cells' : List NetCell) → Each (IsCellOf p table) cells → Each (IsCellOf p table) cells' → cell_names cells ≡ cell_names cells' → signals cells ≡ signals cells'
+  signals_same [] [] h h' e = refl
+  signals_same [] (d ∷ ds) h h' e = absurd (cc)
+  signals_same (c ∷ cs) [] h h' e = absurd (cc)
+  signals_same (c ∷ cs) (d ∷ ds) h h' e =
+      ap (λ (k : CellKind). if is_signal k then suc (signals cs) else signals cs) (one_kind c d h.0 h'.0 (first_of c.name d.name (cell_names cs) (cell_names ds) e))
+      ∙ ap (λ n. if is_signal d.cell.kind then suc n else n) (signals_same cs ds h.1 h'.1 (rest_of c.name d.name (cell_names cs) (cell_names ds) e))
+
+  cells_same : (cells cells' : List NetCell) (s q r : ℕ) → Each (IsCellOf p table) cells → Each (IsCellOf p table) cells' → AreLaidOutFrom s q r cells → AreLaidOutFrom s q r cells' → cell_names cells ≡ cell_names cells' → cells ≡ cells'
+  cells_same [] [] s q r h h' l l' e = refl
+  cells_same [] (d ∷ ds) s q r h h' l l' e = absurd (cc)
+  cells_same (c ∷ cs) [] s q r h h' l l' e = absurd (cc)
+  cells_same (c ∷ cs) (d ∷ ds) s q r h h' l l' e =
+      let name = first_of c.name d.name (cell_names cs) (cell_names ds) e in
+      let kind = one_kind c d h.0 h'.0 name in
+      let first : c.first ≡ d.first = l.0 ∙ ap (λ (k : CellKind). if is_signal k then q else r) kind ∙ sym l'.0 in
+      let same : c ≡ d = one_cell c d h.0 h'.0 name first (l.1 ∙ ap (word_of s) first ∙ sym l'.1) in
       ap (λ (x : NetCell). x ∷ cs) same
       ∙ ap (λ xs. d ∷ xs)
-      (cells_same cs ds (k + length (kind_hows d.cell.kind)) h.1 h'.1 (subst (λ (n : ℕ). AreLaidOut n cs) wide l.1) l'.1
+      (cells_same cs ds s (if is_signal d.cell.kind then suc q else q) (r + length (own_hows d.cell.kind)) h.1 h'.1
+      (subst (λ (k : CellKind). AreLaidOutFrom s (if is_signal k then suc q else q) (r + length (own_hows k)) cs) kind l.2) l'.2
       (rest_of c.name d.name (cell_names cs) (cell_names ds) e))
 
 -- THE NAMES THAT A NET'S LEAVES SPEAK OF
@@ -300,8 +319,10 @@ module _ (p : CoreProgram) (table : List ℕ) (rs : List Closure) (t : ℕ) wher
     where
       cells : net.cells ≡ net'.cells
       cells =
-          cells_same p table net.cells net'.cells 0 (all_each _ net.cells is.cells.cells) (all_each _ net'.cells is'.cells.cells) is.cells.laid_out is'.cells.laid_out
-          (names_same net.cells net'.cells is.cells.order is'.cells.order (names_within net net' is is') (names_within net' net is' is))
+          let names = names_same net.cells net'.cells is.cells.order is'.cells.order (names_within net net' is is') (names_within net' net is' is) in
+          let many = signals_same p table net.cells net'.cells (all_each _ net.cells is.cells.cells) (all_each _ net'.cells is'.cells.cells) names in
+          cells_same p table net.cells net'.cells (signals net.cells) 0 (signals net.cells) (all_each _ net.cells is.cells.cells) (all_each _ net'.cells is'.cells.cells) is.cells.laid_out
+          (subst (λ (n : ℕ). AreLaidOutFrom n 0 n net'.cells) (sym many) is'.cells.laid_out) names
 
       guards : net.guards ≡ net'.guards
       guards =

@@ -1,9 +1,8 @@
--- The value that the words of one cell have, and what it becomes where a token is told to them.
-use Rattle.std.proofs.Common.{◌≡◌, ◌⊎◌, inl, inr, ℕ, zero, suc, ◌+◌, ◌%◌, ◌<◌, ◌≤◌, List, Bool, true, false, cond, ◌&&◌, length, set, max, min, refl, sym, ap, ◌∙◌, subst, arith, get_or-set_same, get_or-set_other}
-use Rattle.std.specs.Prelude.{slice_index, bit_or, nat_lt, ℤ, pos, ◌+ℤ◌, ◌-ℤ◌, ◌≤ℤ◌, ◌<ℤ◌, int_le, int_lt, IsTrue}
+-- The value that the parts of one cell have, and what it becomes where a token is told to them.
+use Rattle.std.proofs.Common.{◌≡◌, ◌≢◌, ◌⊎◌, inl, inr, ℕ, zero, suc, ◌+◌, ◌<◌, ◌≤◌, Bool, true, false, cond, ◌&&◌, length, max, min, refl, sym, ap, ◌∙◌, subst, arith}
+use Rattle.std.specs.Prelude.{bit_or, nat_lt, ℤ, pos, ◌+ℤ◌, ◌-ℤ◌, ◌≤ℤ◌, ◌<ℤ◌, int_le, int_lt, IsTrue}
 use Rattle.std.proofs.lemmas.Int.{ints}
 use Rattle.std.proofs.lemmas.Bool.Decides.{nat_tests}
-use Rattle.std.proofs.lemmas.Nat.{or_mod}
 use Rattle.token_system.specs.declared.cell.Kind.{Kind}
 use Rattle.token_system.specs.declared.cell.Kind.TheVariants.{Signal, Number}
 use Rattle.token_system.specs.declared.cell.Token.{Token}
@@ -14,7 +13,10 @@ use Rattle.token_system.specs.Domain.{is_bound, is_cell}
 use Rattle.token_system.specs.Tokens.{fits_kind}
 use Rattle.token_system.specs.Values.{value_with, WithinDomain, IsProper}
 use Rattle.token_system.proofs.Alike.{true_false}
-use Rattle.instant_net.specs.Words.{bits_value, signal_value, number_value, kind_value, kind_hows, told_by_kind, tell_word, shifted, offset}
+use Rattle.instant_net.specs.declared.words.How.{How}
+use Rattle.instant_net.specs.declared.words.How.TheVariants.{Or, Max, Min}
+use Rattle.instant_net.specs.Words.{lub, bits_value, number_value, kind_value, kind_hows, shifted, offset}
+use Rattle.instant_net.proofs.PartTells.{split}
 
 -- SIGNALS
 
@@ -25,15 +27,12 @@ below_four (suc (suc zero)) h f g a b c d = c
 below_four (suc (suc (suc zero))) h f g a b c d = d
 below_four (suc (suc (suc (suc r)))) h f g a b c d = absurd (omega arith)
 
--- one token's bits, set in a signal's word
-signal_told : (w b : ℕ) (t : Token) → b < 4
+-- one token's bits, set in a signal's part
+signal_told : (w b : ℕ) (t : Token) → w < 4
     → bits_value (bit_or 0 b) ≡ value_with (bits_value 0) t → bits_value (bit_or 1 b) ≡ value_with (bits_value 1) t
     → bits_value (bit_or 2 b) ≡ value_with (bits_value 2) t → bits_value (bit_or 3 b) ≡ value_with (bits_value 3) t
-    → signal_value (bit_or w b) ≡ value_with (signal_value w) t
-signal_told w b t h p q r s =
-    let small : b % 4 ≡ b = omega arith in
-    ap bits_value (or_mod w b 2 ∙ ap (bit_or (w % 4)) small)
-    ∙ below_four (w % 4) (omega arith) (λ x. bits_value (bit_or x b)) (λ x. value_with (bits_value x) t) p q r s
+    → bits_value (bit_or w b) ≡ value_with (bits_value w) t
+signal_told w b t h p q r s = below_four w h (λ x. bits_value (bit_or x b)) (λ x. value_with (bits_value x) t) p q r s
 
 -- NUMBERS
 
@@ -90,13 +89,6 @@ number_stands lo hi h = number_by lo hi false (not_crossed lo hi h)
 stays_clash : (lo hi x y : ℕ) (t : Token) → hi < lo → y < x → number_value x y ≡ value_with (number_value lo hi) t
 stays_clash lo hi x y t h i = number_clashes x y i ∙ sym (ap (λ v. value_with v t) (number_clashes lo hi h))
 
-pub split : (a b : ℕ) → (a < b) ⊎ (b ≤ a)
-split a b = go (nat_lt a b) refl
-  where
-    go : (p : Bool) → nat_lt a b ≡ p → (a < b) ⊎ (b ≤ a)
-    go true e = inl (grind (arith, nat_tests))
-    go false e = inr (grind (arith, nat_tests))
-
 number_at_least : (lo hi : ℕ) (k : ℤ) → IsTrue (is_bound k) → number_value (max lo (shifted k)) hi ≡ value_with (number_value lo hi) (token.AtLeast k)
 number_at_least lo hi k h = go (split hi lo)
   where
@@ -150,41 +142,65 @@ number_clash lo hi h = number_clashes (max lo 4294967296) hi (omega arith) ∙ g
 
 -- BOTH KINDS
 
-pub same_at : (k : Kind) (f g : ℕ → ℕ) (first : ℕ) → ((j : ℕ) → first ≤ j → j < first + length (kind_hows k) → f j ≡ g j) → kind_value k f first ≡ kind_value k g first
-same_at Signal f g first h = ap signal_value (h first (omega arith) (omega arith))
-same_at Number f g first h = ap (λ x. number_value x (f (first + 1))) (h first (omega arith) (omega arith)) ∙ ap (number_value (g first)) (h (first + 1) (omega arith) (omega arith))
+-- what a token tells: to which of its cell's parts, counted from the first, in which way, and which bits
+abbrev pub told_nth : Kind → Token → ℕ
+told_nth Number (token.AtMost k) = 1
+told_nth _ t = 0
 
--- the value of a cell after one of its tokens is told to its words
-pub value_told : (k : Kind) (first : ℕ) (t : Token) (words : List ℕ) → IsTrue (fits_kind k t) → first + length (kind_hows k) ≤ length words → (k ≡ Number → slice_index words (first + 1) < 4294967296)
-    → kind_value k (λ i. slice_index (tell_word words (told_by_kind k first t)) i) first ≡ value_with (kind_value k (λ i. slice_index words i) first) t
-value_told Signal first token.On words f l h = ap signal_value (get_or-set_same words first _ 0 (omega arith)) ∙ signal_told (slice_index words first) 1 token.On (omega arith) refl refl refl refl
-value_told Signal first token.Off words f l h = ap signal_value (get_or-set_same words first _ 0 (omega arith)) ∙ signal_told (slice_index words first) 2 token.Off (omega arith) refl refl refl refl
-value_told Signal first token.Clash words f l h = ap signal_value (get_or-set_same words first _ 0 (omega arith)) ∙ signal_told (slice_index words first) 3 token.Clash (omega arith) refl refl refl refl
-value_told Signal first (token.AtLeast n) words f l h = absurd (true_false (sym f))
-value_told Signal first (token.AtMost n) words f l h = absurd (true_false (sym f))
-value_told Number first token.On words f l h = absurd (true_false (sym f))
-value_told Number first token.Off words f l h = absurd (true_false (sym f))
-value_told Number first (token.AtLeast n) words f l h =
-    ap (λ x. number_value x (slice_index (set words first (max (slice_index words first) (shifted n))) (first + 1))) (get_or-set_same words first _ 0 (omega arith))
-    ∙ ap (number_value (max (slice_index words first) (shifted n))) (get_or-set_other words first (first + 1) _ 0 (λ e. omega arith))
-    ∙ number_at_least (slice_index words first) (slice_index words (first + 1)) n f
-value_told Number first (token.AtMost n) words f l h =
-    ap (λ x. number_value x (slice_index (set words (first + 1) (min (slice_index words (first + 1)) (shifted n))) (first + 1))) (get_or-set_other words (first + 1) first _ 0 (λ e. omega arith))
-    ∙ ap (number_value (slice_index words first)) (get_or-set_same words (first + 1) _ 0 (omega arith))
-    ∙ number_at_most (slice_index words first) (slice_index words (first + 1)) n f
-value_told Number first token.Clash words f l h =
-    ap (λ x. number_value x (slice_index (set words first (max (slice_index words first) 4294967296)) (first + 1))) (get_or-set_same words first _ 0 (omega arith))
-    ∙ ap (number_value (max (slice_index words first) 4294967296)) (get_or-set_other words first (first + 1) _ 0 (λ e. omega arith))
-    ∙ number_clash (slice_index words first) (slice_index words (first + 1)) (h refl)
+abbrev pub told_how : Kind → Token → How
+told_how Number (token.AtLeast k) = Max
+told_how Number (token.AtMost k) = Min
+told_how Number token.Clash = Max
+told_how _ t = Or
+
+abbrev pub told_bits : Kind → Token → ℕ
+told_bits Signal token.On = 1
+told_bits Signal token.Off = 2
+told_bits Signal token.Clash = 3
+told_bits Number (token.AtLeast k) = shifted k
+told_bits Number (token.AtMost k) = shifted k
+told_bits Number token.Clash = 4294967296
+told_bits _ t = 0
+
+-- the first part, written with what is added to it
+at_none : (at : ℕ → ℕ) (a : ℕ) → at (a + 0) ≡ at a
+at_none at a = ap at (omega arith)
+
+-- where the told part has risen and the others are as before, the value of the cell is that with the token
+pub value_told : (k : Kind) (first : ℕ) (t : Token) (at after : ℕ → ℕ) → IsTrue (fits_kind k t) → (k ≡ Signal → at first < 4) → (k ≡ Number → at (first + 1) < 4294967296)
+    → after (first + told_nth k t) ≡ lub (told_how k t) (at (first + told_nth k t)) (told_bits k t)
+    → ((i : ℕ) → i < length (kind_hows k) → i ≢ told_nth k t → after (first + i) ≡ at (first + i))
+    → kind_value k after first ≡ value_with (kind_value k at first) t
+value_told Signal first token.On at after f s n told other =
+    ap bits_value (sym (at_none after first) ∙ told ∙ ap (λ x. bit_or x 1) (at_none at first)) ∙ signal_told (at first) 1 token.On (s refl) refl refl refl refl
+value_told Signal first token.Off at after f s n told other =
+    ap bits_value (sym (at_none after first) ∙ told ∙ ap (λ x. bit_or x 2) (at_none at first)) ∙ signal_told (at first) 2 token.Off (s refl) refl refl refl refl
+value_told Signal first token.Clash at after f s n told other =
+    ap bits_value (sym (at_none after first) ∙ told ∙ ap (λ x. bit_or x 3) (at_none at first)) ∙ signal_told (at first) 3 token.Clash (s refl) refl refl refl refl
+value_told Signal first (token.AtLeast k) at after f s n told other = absurd (true_false (sym f))
+value_told Signal first (token.AtMost k) at after f s n told other = absurd (true_false (sym f))
+value_told Number first token.On at after f s n told other = absurd (true_false (sym f))
+value_told Number first token.Off at after f s n told other = absurd (true_false (sym f))
+value_told Number first (token.AtLeast k) at after f s n told other =
+    ap (λ x. number_value x (after (first + 1))) (sym (at_none after first) ∙ told ∙ ap (λ x. max x (shifted k)) (at_none at first))
+    ∙ ap (number_value (max (at first) (shifted k))) (other 1 (omega arith) (omega arith))
+    ∙ number_at_least (at first) (at (first + 1)) k f
+value_told Number first (token.AtMost k) at after f s n told other =
+    ap (λ x. number_value x (after (first + 1))) (sym (at_none after first) ∙ other 0 (omega arith) (omega arith) ∙ at_none at first)
+    ∙ ap (number_value (at first)) told
+    ∙ number_at_most (at first) (at (first + 1)) k f
+value_told Number first token.Clash at after f s n told other =
+    ap (λ x. number_value x (after (first + 1))) (sym (at_none after first) ∙ told ∙ ap (λ x. max x 4294967296) (at_none at first))
+    ∙ ap (number_value (max (at first) 4294967296)) (other 1 (omega arith) (omega arith))
+    ∙ number_clash (at first) (at (first + 1)) (n refl)
 
 -- VALUES OF A CELL
 
-signal_within : (least most : ℤ) (r : ℕ) → r < 4 → WithinDomain least most Signal (bits_value r) × IsProper (bits_value r)
-signal_within least most zero h = (tt, refl)
-signal_within least most (suc zero) h = (tt, refl)
-signal_within least most (suc (suc zero)) h = (tt, refl)
-signal_within least most (suc (suc (suc zero))) h = (tt, tt)
-signal_within least most (suc (suc (suc (suc r)))) h = absurd (omega arith)
+signal_within : (least most : ℤ) (bits : ℕ) → WithinDomain least most Signal (bits_value bits) × IsProper (bits_value bits)
+signal_within least most zero = (tt, refl)
+signal_within least most (suc zero) = (tt, refl)
+signal_within least most (suc (suc zero)) = (tt, refl)
+signal_within least most (suc (suc (suc bits))) = (tt, tt)
 
 number_within : (least most : ℤ) (lo hi : ℕ) → IsTrue (is_bound least) → IsTrue (is_bound most) → shifted least ≤ lo → hi ≤ shifted most → WithinDomain least most Number (number_value lo hi) × IsProper (number_value lo hi)
 number_within least most lo hi bl bm l m = go (split hi lo)
@@ -212,5 +228,5 @@ pub greatest_small : (least most : ℤ) → IsTrue (is_cell Number least most) �
 greatest_small least most l = shifted_small most (bounds_lawful least most l).1
 
 pub value_within : (k : Kind) (least most : ℤ) → IsTrue (is_cell k least most) → (at : ℕ → ℕ) (first : ℕ) → (k ≡ Number → (shifted least ≤ at first) × (at (first + 1) ≤ shifted most)) → WithinDomain least most k (kind_value k at first) × IsProper (kind_value k at first)
-value_within Signal least most l at first h = signal_within least most (at first % 4) (omega arith)
+value_within Signal least most l at first h = signal_within least most (at first)
 value_within Number least most l at first h = let b = bounds_lawful least most l in let s = h refl in number_within least most (at first) (at (first + 1)) b.0 b.1 s.0 s.1

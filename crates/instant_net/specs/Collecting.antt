@@ -49,19 +49,20 @@ abbrev pub declared_names : ℕ → List CellName
 declared_names zero = []
 declared_names (suc n) = declared_names n ++ Declared n ∷ []
 
--- the cells are those of their names, and take so many words in a row, which 32 bits can number
-pub record IsRow (p : CoreProgram) (table : List ℕ) (cells : List NetCell) (words : ℕ) : Type 0 where
-  pub each : All (IsCellOf p table) cells
-  pub laid_out : AreLaidOut 0 cells
-  pub words_are : words ≡ length (hows cells)
-  pub few_words : words < 4294967296
+-- the cells are those of their names
+abbrev pub IsRow : CoreProgram → List ℕ → List NetCell → Type 0
+IsRow p table cells = All (IsCellOf p table) cells
+
+-- the cell without its place in the words
+abbrev pub unplaced : NetCell → NetCell
+unplaced c = record c { first = 0; word = 0 }
 
 -- the cells are the declared ones, and local ones that these leaves speak of, in order; and their words can be numbered
 pub record AreCellsFor (p : CoreProgram) (table : List ℕ) (ls : List NamedLeaf) (cells : List NetCell) : Type 0 where
   pub program : IsWellFormed p
   pub each : All (IsCellOf p table) cells
   pub order : AreInOrder cells
-  pub laid_out : AreLaidOut 0 cells
+  pub laid_out : AreLaidOut cells
   pub declared : (k : ℕ) → k < p.declared → (c : NetCell) × (slice_get cells k ≡ Some c) × (c.name ≡ Declared k)
   pub spoken : All (λ c. ((k : ℕ) × (c.name ≡ Declared k)) ⊎ Contains (flat_map names_of ls) c.name) cells
   pub few : length cells < 4294967296

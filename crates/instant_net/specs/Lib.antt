@@ -4,6 +4,7 @@ pub mod Occurrences
 pub mod Nets
 pub mod Readers
 pub mod Programs
+pub mod WordParts
 pub mod Words
 pub mod Links
 pub mod Opened

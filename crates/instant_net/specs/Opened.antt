@@ -43,7 +43,7 @@ IsSpokenOf net n = Contains (flat_map names_of (net_leaves net)) n
 pub record HasCells (p : CoreProgram) (table : List ℕ) (net : Flat) : Type 0 where
   pub cells : All (IsCellOf p table) net.cells
   pub order : AreInOrder net.cells
-  pub laid_out : AreLaidOut 0 net.cells
+  pub laid_out : AreLaidOut net.cells
   pub declared : (k : ℕ) → k < p.declared → (c : NetCell) × (slice_get net.cells k ≡ Some c) × (c.name ≡ Declared k)
   pub spoken : All (λ c. ((k : ℕ) × (c.name ≡ Declared k)) ⊎ IsSpokenOf net c.name) net.cells
 

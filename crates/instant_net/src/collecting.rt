@@ -1,13 +1,12 @@
 //! The cells of an instant: the declared ones, and the local ones that its leaves speak of.
-ghost use Rattle.std.specs.Prelude.{◌≡◌, ℕ, ◌+◌, ◌<◌, ◌≤◌, ◌++◌, ◌∷◌, [], All, IfOk, length};
+ghost use Rattle.std.specs.Prelude.{◌≡◌, ℕ, ◌≤◌, ◌++◌, ◌∷◌, [], All, IfOk, length};
+ghost use Rattle.instant_net.specs.Limits.{most_roots};
 ghost use Rattle.token_system.specs.Names.{name_cmp};
 ghost use Rattle.agent_core.specs.declared.node.CellDecl.{CellDecl};
 ghost use Rattle.agent_core.specs.WellFormed.{IsWellFormed};
 ghost use Rattle.agent_core.specs.Names as names;
 ghost use Rattle.agent_core.specs.Names.{IsClosure};
 ghost use Rattle.std.specs.List.Sorted.{IsStrictlySortedBy};
-ghost use Rattle.instant_net.specs.Words.{cell_hows};
-ghost use Rattle.instant_net.specs.Limits.{most_instant_cells, most_roots};
 ghost use Rattle.agent_core.specs.Scope.{ConstraintFits};
 ghost use Rattle.agent_laws.specs.Laws.{AreClosures};
 ghost use Rattle.agent_laws.specs.Ways.{cell_named};
@@ -16,12 +15,13 @@ ghost use Rattle.instant_net.specs.Locals.{AreLocalsOf};
 ghost use Rattle.instant_net.specs.Covering.{CoversAsk, CoversNode, RootsCovered};
 ghost use Rattle.instant_net.specs.Collecting.{IsLocal, IsSpokenBy, AddsAsked, AddsSpoken, cell_names, declared_names, IsRow, AreCellsFor};
 
+use crate::layout::lay_out;
 use crate::locals::{Local, local_of};
 use crate::parts::NetCell;
 use agent_core::{Closure, Constraint, Levels, Node, Program};
 use std::alloc::Global;
 use std::collections::BTreeSet;
-use token_system::{Births, Cell, CellName, Kind, Memory};
+use token_system::{Births, CellName, Memory};
 
 /// What names are collected by: the program, its local cells, and the instant.
 #[derive(Clone, Copy)]
@@ -128,21 +128,10 @@ fn local_cell(program: &Program, name: &CellName) -> u32
     }
 }
 
-/// How many words the cell takes.
-fn words_of(cell: Cell) -> u32
-    ensures { result ≡ length (cell_hows cell) }
-{
-    match cell.kind {
-        Kind::Signal => 1,
-        Kind::Number => 2,
-    }
-}
-
-/// Cells in a row, and how many words they take.
+/// Cells in a row. Their parts and words are still to be laid out.
 #[derive(Debug, Drop)]
 struct Row {
     cells: Vec<NetCell>,
-    words: u32,
 }
 
 impl Row {
@@ -157,30 +146,28 @@ impl Row {
         requires levels { length levels.now ≡ length program.now.cells }
         requires named { (d : CellDecl) × names.Names program.now name d }
         requires number { cell ≡ cell_named program.now name }
-        requires row { IsRow program.now levels.now self.old.cells.items self.old.words }
-        requires few { length self.old.cells.items < most_instant_cells }
-        ensures row { IfOk result (λ _. IsRow program.now levels.now self.new.cells.items self.new.words) }
+        requires row { IsRow program.now levels.now self.old.cells.items }
+        ensures row { IfOk result (λ _. IsRow program.now levels.now self.new.cells.items) }
         ensures names { IfOk result (λ _. cell_names self.new.cells.items ≡ cell_names self.old.cells.items ++ name ∷ []) }
     {
         let decl = program.cells()[cell as usize].cell;
         let stratum = levels.list()[cell as usize];
-        let first = self.words;
         self.cells.push(NetCell {
             name,
             cell: decl,
             stratum,
-            first,
+            first: 0,
+            word: 0,
         })?;
-        self.words = first + words_of(decl);
         Ok(())
     }
 
     /// Adds the declared cells.
     fn add_declared(&mut self, program: &Program, levels: &Levels) -> Result<(), Memory>
         requires levels { length levels.now ≡ length program.now.cells }
-        requires row { IsRow program.now levels.now self.old.cells.items self.old.words }
+        requires row { IsRow program.now levels.now self.old.cells.items }
         requires empty { self.old.cells.items ≡ [] }
-        ensures row { IfOk result (λ _. IsRow program.now levels.now self.new.cells.items self.new.words) }
+        ensures row { IfOk result (λ _. IsRow program.now levels.now self.new.cells.items) }
         ensures names { IfOk result (λ _. cell_names self.new.cells.items ≡ declared_names program.now.declared) }
         ensures program { IsWellFormed program.now }
     {
@@ -198,10 +185,9 @@ impl Row {
         names: BTreeSet<CellName>,
     ) -> Result<(), Memory>
         requires levels { length levels.now ≡ length program.now.cells }
-        requires row { IsRow program.now levels.now self.old.cells.items self.old.words }
+        requires row { IsRow program.now levels.now self.old.cells.items }
         requires locals { All (IsLocal program.now) names.keys }
-        requires few { length self.old.cells.items + length names.keys ≤ most_instant_cells }
-        ensures row { IfOk result (λ _. IsRow program.now levels.now self.new.cells.items self.new.words) }
+        ensures row { IfOk result (λ _. IsRow program.now levels.now self.new.cells.items) }
         ensures names { IfOk result (λ _. cell_names self.new.cells.items ≡ cell_names self.old.cells.items ++ names.keys) }
         ensures order { IfOk result (λ _. IsStrictlySortedBy name_cmp names.keys) }
     {
@@ -232,9 +218,9 @@ pub(crate) fn net_cells(
     let names = local_names(alloc, program, locals, roots, t)?;
     let mut row = Row {
         cells: Vec::with_capacity(alloc, program.declared() as usize + names.len())?,
-        words: 0,
     };
     row.add_declared(program, levels)?;
     row.add_locals(program, levels, names)?;
+    lay_out(&mut row.cells);
     Ok(row.cells)
 }

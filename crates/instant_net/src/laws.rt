@@ -1,5 +1,11 @@
-//! Laws of nets. Each is a function that computes nothing, and its contract is the law.
-ghost use Rattle.std.specs.Prelude.{◌≡◌};
+//! Laws of nets and of words. Each is a function that computes nothing, and its contract is the law.
+ghost use Rattle.std.specs.Prelude.{◌≡◌, ◌≢◌, ◌<◌, ℕ, List, Some, length, slice_get};
+ghost use Rattle.instant_net.specs.declared.parts.NetCell.{NetCell};
+ghost use Rattle.instant_net.specs.declared.words.How.{How};
+ghost use Rattle.instant_net.specs.Nets.{Flat};
+ghost use Rattle.instant_net.specs.Opened.{IsNet};
+ghost use Rattle.instant_net.specs.WordParts.{part_at, part_of, word_of};
+ghost use Rattle.instant_net.specs.Words.{lub, signals, tell_part, value_by, value_in, FitsPart, JoinsParts};
 ghost use Rattle.instant_net.specs.Limits.{most_leaves, most_roots};
 ghost use Rattle.instant_net.specs.Laws.{NetsAreStratified, NetsHaveRootOutputs, NetsRestByLeaves, NetsRestByRoots, RootsHaveOneNet};
 
@@ -34,4 +40,16 @@ pub fn net_outputs_law()
 /// and leaves included.
 pub fn one_net_law()
     ensures { RootsHaveOneNet }
+{}
+
+/// What is told to a part of a word is told to that part alone, where two bits of a signal are set; and the join of two
+/// words has in each part the join of theirs. The value of a cell of a net is that of its parts.
+pub fn parts_law()
+    ensures same { (s q bits : ℕ) (how : How) (words : List ℕ) → FitsPart s q how bits → word_of s q < length words
+        → part_at s (tell_part s how words q bits) q ≡ lub how (part_at s words q) bits }
+    ensures others { (s q r bits : ℕ) (how : How) (words : List ℕ) → FitsPart s q how bits → word_of s q < length words → r ≢ q
+        → part_at s (tell_part s how words q bits) r ≡ part_at s words r }
+    ensures lubs { (s q u w : ℕ) (how : How) → JoinsParts s q how → part_of s q (lub how u w) ≡ lub how (part_of s q u) (part_of s q w) }
+    ensures values { (net : Flat) (words : List ℕ) (k : ℕ) (c : NetCell) → IsNet net → slice_get net.cells k ≡ Some c
+        → value_in words c ≡ value_by (part_at (signals net.cells) words) c }
 {}

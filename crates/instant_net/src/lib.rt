@@ -5,6 +5,7 @@
 mod collecting;
 mod counting;
 mod laws;
+mod layout;
 mod locals;
 mod net;
 mod opening;
@@ -12,7 +13,9 @@ mod parts;
 mod walking;
 mod words;
 
-pub use laws::{net_limits_law, net_outputs_law, net_rests_law, one_net_law, stratified_net_law};
+pub use laws::{
+    net_limits_law, net_outputs_law, net_rests_law, one_net_law, parts_law, stratified_net_law,
+};
 pub use net::Net;
 pub use opening::{MAX_LEAVES, MAX_ROOTS, NetFault, open_net};
 pub use parts::Atom;

@@ -1,16 +1,17 @@
 //! The net of an instant, and what can be read off it.
 ghost use Rattle.std.specs.Prelude.{◌≡◌, length};
-ghost use Rattle.instant_net.specs.Words.{hows};
+ghost use Rattle.instant_net.specs.WordParts.{signal_words as signal_words_of};
+ghost use Rattle.instant_net.specs.Words.{hows, signals};
 ghost use Rattle.instant_net.specs.Opened.{IsNet};
 
 mod cells;
 mod guards;
 mod leaves;
 
+use crate::layout::{count_signals, count_words, signal_words};
 use crate::parts::{NetCell, NetGuard, NetLeaf};
-pub(crate) use cells::shifted;
+pub(crate) use cells::{place_in, shifted};
 use std::marker::Model;
-use token_system::Kind;
 
 /// One instant of a program, made flat. Its cells, guards and leaves are numbered from 0.
 #[derive(Debug, Drop)]
@@ -81,13 +82,14 @@ impl Net {
     pub fn words(&self) -> u32
         ensures { result ≡ length (hows self.now.cells) }
     {
-        match self.cells.last() {
-            None => 0,
-            Some(cell) => match cell.cell.kind {
-                Kind::Signal => cell.first + 1,
-                Kind::Number => cell.first + 2,
-            },
-        }
+        count_words(self.cells.as_slice())
+    }
+
+    /// How many of them hold signals.
+    pub(crate) fn signal_words(&self) -> u32
+        ensures { result ≡ signal_words_of (signals self.now.cells) }
+    {
+        signal_words(count_signals(self.cells.as_slice()))
     }
 
     /// How many strata there are.

@@ -57,13 +57,14 @@ impl Atoms {
     }
 }
 
-/// A cell of a net: its name, its kind and domain, its stratum, and the place of its first word.
+/// A cell of a net: its name, its kind and domain, its stratum, its first part, and the word that this part is in.
 #[derive(Debug, Drop)]
 pub(crate) struct NetCell {
     pub(crate) name: CellName,
     pub(crate) cell: Cell,
     pub(crate) stratum: u32,
     pub(crate) first: u32,
+    pub(crate) word: u32,
 }
 
 /// An ask above some leaves: whether it is that of an else, its constraint, the nearest guard above it, and the leaves

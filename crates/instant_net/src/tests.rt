@@ -8,6 +8,7 @@ ghost use Rattle.instant_net.specs.Limits.{most_roots};
 
 mod fronts;
 mod making;
+mod packing;
 mod reading;
 mod telling;
 

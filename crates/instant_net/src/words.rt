@@ -61,7 +61,7 @@ impl Model for Words {
 }
 
 impl Words {
-    /// The words, in the order of the net's cells.
+    /// The words: those of signals, and then those of the other cells, in the order of the net's cells.
     pub fn list(&self) -> &[u64]
         ensures { result.now ≡ self.now }
     {

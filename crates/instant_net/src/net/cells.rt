@@ -1,14 +1,17 @@
 //! What is read off the cells of a net.
 ghost use Rattle.std.specs.Prelude.{◌≡◌, ◌+◌, ◌<◌, IsTrue, Some, length, option_map, slice_get};
+ghost use Rattle.token_system.specs.declared.cell.Kind.TheVariants.{Number};
 ghost use Rattle.token_system.specs.Domain.{is_bound};
 ghost use Rattle.token_system.specs.Tokens.{fits_kind};
 ghost use Rattle.instant_net.specs.Nets.{AtomFits};
 ghost use Rattle.instant_net.specs.Opened.{IsNet};
+ghost use Rattle.instant_net.specs.WordParts.{pair_at as pair_at_of, place_in as place_in_of};
 ghost use Rattle.instant_net.specs.Readers.{stratum_of};
 ghost use Rattle.instant_net.specs.Words.{shifted as shifted_of, told_as as told_as_of, told_of};
 
+use crate::layout::SIGNALS_IN_A_WORD;
 use crate::net::Net;
-use crate::parts::Atom;
+use crate::parts::{Atom, NetCell};
 use crate::words::{How, Told};
 use token_system::{Cell, CellName, Kind, Token};
 
@@ -44,7 +47,7 @@ impl Net {
         self.cells[cell as usize].stratum
     }
 
-    /// The place of the cell's first word.
+    /// The cell's first part.
     pub(crate) fn first(&self, cell: u32) -> u32
         requires { cell < length self.now.cells }
         ensures { option_map (λ c. c.first) (slice_get self.now.cells cell) ≡ Some result }
@@ -52,35 +55,57 @@ impl Net {
         self.cells[cell as usize].first
     }
 
+    /// The word of the cell's first part.
+    pub(crate) fn word(&self, cell: u32) -> u32
+        requires { cell < length self.now.cells }
+        ensures { option_map (λ c. c.word) (slice_get self.now.cells cell) ≡ Some result }
+    {
+        self.cells[cell as usize].word
+    }
+
     /// Where and how the token is told.
     pub fn told(&self, atom: Atom) -> Told
         requires { AtomFits self.now.cells atom }
         ensures { result ≡ told_of self.now.cells atom }
     {
-        let cell = &self.cells[atom.cell as usize];
-        told_as(cell.cell, cell.first, atom.token)
+        told_as(&self.cells[atom.cell as usize], atom.token)
     }
 }
 
-// Where and how a token is told of the cell, whose first word this is.
-fn told_as(cell: Cell, first: u32, token: Token) -> Told
-    requires fits { IsTrue (fits_kind cell.kind token) }
-    requires small { first + 1 < 4294967296 }
-    ensures { result ≡ told_as_of cell first token }
+// Where and how a token is told of the cell.
+fn told_as(cell: &NetCell, token: Token) -> Told
+    requires fits { IsTrue (fits_kind cell.now.cell.kind token) }
+    requires small { cell.now.cell.kind ≡ Number → cell.now.word + 1 < 4294967296 }
+    ensures { result ≡ told_as_of cell.now token }
 {
-    let (word, how, bits) = match (cell.kind, token) {
-        (Kind::Signal, Token::On) => (first, How::Or, 1),
-        (Kind::Signal, Token::Off) => (first, How::Or, 2),
-        (Kind::Signal, Token::Clash) => (first, How::Or, 3),
-        (Kind::Number, Token::AtLeast(k)) => (first, How::Max, shifted(k)),
-        (Kind::Number, Token::AtMost(k)) => (first + 1, How::Min, shifted(k)),
-        (Kind::Number, Token::Clash) => (first, How::Max, CLASH),
-        _ => (first, How::Or, 0),
+    let (word, how, bits) = match (cell.cell.kind, token) {
+        (Kind::Signal, Token::On) => (cell.word, How::Or, pair_at(cell.first, 1)),
+        (Kind::Signal, Token::Off) => (cell.word, How::Or, pair_at(cell.first, 2)),
+        (Kind::Signal, Token::Clash) => (cell.word, How::Or, pair_at(cell.first, 3)),
+        (Kind::Number, Token::AtLeast(k)) => (cell.word, How::Max, shifted(k)),
+        (Kind::Number, Token::AtMost(k)) => (cell.word + 1, How::Min, shifted(k)),
+        (Kind::Number, Token::Clash) => (cell.word, How::Max, CLASH),
+        _ => (cell.word, How::Or, 0),
     };
     Told { word, how, bits }
 }
 
-// A bound as the content of a word.
+// Two bits, where this signal has them in its word.
+fn pair_at(signal: u32, bits: u64) -> u64
+    requires { bits < 4 }
+    ensures { result ≡ pair_at_of signal bits }
+{
+    bits << place_in(signal)
+}
+
+/// The lower of the signal's two bits in its word.
+pub(crate) fn place_in(signal: u32) -> u32
+    ensures { result ≡ place_in_of signal }
+{
+    2 * (signal % SIGNALS_IN_A_WORD)
+}
+
+/// A bound as the content of a word.
 pub(crate) fn shifted(k: i64) -> u64
     requires { IsTrue (is_bound k) }
     ensures { result ≡ shifted_of k }

@@ -9,7 +9,7 @@ use std::alloc::Global;
 use std::test::Fail;
 use token_system::{Births, Cell, CellName, Kind, Token};
 
-const UP_TO_SEVEN: Cell = Cell {
+pub(super) const UP_TO_SEVEN: Cell = Cell {
     kind: Kind::Number,
     lo: 0,
     hi: 7,
@@ -69,8 +69,8 @@ pub(super) fn net_of_each_kind(alloc: Global) -> Result<Net, Fail> {
     }
 }
 
-/// The leaves are the skip, the three tells, the hence and the next; the guards the two asks. The signal has one word,
-/// and each number two.
+/// The leaves are the skip, the three tells, the hence and the next; the guards the two asks. The signal has a word,
+/// which no other shares, and each number two.
 #[test]
 fn parts_are_counted(rt: HostRuntime) -> Result<(), Fail> {
     let net = net_of_each_kind(rt.alloc())?;

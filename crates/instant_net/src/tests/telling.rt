@@ -11,13 +11,13 @@ use std::test::Fail;
 use token_system::{Births, CellName, Store, Value};
 
 /// What stands for the bound 0 in a word of a number.
-const ZERO: u64 = 2_147_483_648;
+pub(super) const ZERO: u64 = 2_147_483_648;
 
 /// What is told to the lower bound of a number that clashes.
 const CLASH: u64 = 4_294_967_296;
 
 /// Where and how the tokens of the leaf are told.
-fn told_by(alloc: Global, net: &Net, leaf: u32) -> Result<Vec<Told>, Fail>
+pub(super) fn told_by(alloc: Global, net: &Net, leaf: u32) -> Result<Vec<Told>, Fail>
     requires { leaf < length net.now.leaves }
 {
     let mut list = Vec::new(alloc);
@@ -28,7 +28,7 @@ fn told_by(alloc: Global, net: &Net, leaf: u32) -> Result<Vec<Told>, Fail>
 }
 
 /// The words of which nothing is told.
-fn untold_words(alloc: Global, net: &Net) -> Result<Words, Fail>
+pub(super) fn untold_words(alloc: Global, net: &Net) -> Result<Words, Fail>
     ensures { IfOk result (AreWords net.now.cells) }
 {
     Ok(open_words(alloc, net, &Store::new(alloc))?)

@@ -10,9 +10,10 @@ ghost use Rattle.instant_net.specs.NamedLeaves as named_leaves;
 ghost use Rattle.instant_net.specs.Nets.{named_atoms, named_leaf, named_occurrence, path_to, paths_from, AtomFits, IsLinkBelow};
 ghost use Rattle.instant_net.specs.Opened.{IsNet};
 ghost use Rattle.instant_net.specs.Readers.{guard_ask_of, is_else_of};
-ghost use Rattle.instant_net.specs.Words.{number_value, signal_value, store_in, value_in, AreWords};
+ghost use Rattle.instant_net.specs.WordParts.{pair_of as pair_of_word};
+ghost use Rattle.instant_net.specs.Words.{bits_value, number_value, store_in, value_in, AreWords};
 
-use crate::net::Net;
+use crate::net::{Net, place_in};
 use crate::parts::Atom;
 use crate::words::Words;
 use token_system::{Kind, Value, entails};
@@ -28,18 +29,26 @@ pub fn value(net: &Net, words: &Words, cell: u32) -> Value
     ensures of_cell { (c : NetCell) → slice_get net.now.cells cell ≡ Some c → IsValueOf c.cell result }
     ensures in_store { (c : NetCell) → slice_get net.now.cells cell ≡ Some c → result ≡ value_at (store_in net.now.cells words.now) c.name c.cell }
 {
-    let first = net.first(cell);
+    let word = net.word(cell);
     match net.cell(cell).kind {
-        Kind::Signal => signal(words.at(first)),
-        Kind::Number => number(words.at(first), words.at(first + 1)),
+        Kind::Signal => signal(pair_of(net.first(cell), words.at(word))),
+        Kind::Number => number(words.at(word), words.at(word + 1)),
     }
 }
 
-// The value of a signal with this word.
-fn signal(word: u64) -> Value
-    ensures { result ≡ signal_value word }
+// The two bits that this signal has of its word.
+fn pair_of(signal: u32, word: u64) -> u64
+    ensures { result ≡ pair_of_word signal word }
 {
-    match word % 4 {
+    (word >> place_in(signal)) % 4
+}
+
+// The value of a signal with these two bits.
+fn signal(bits: u64) -> Value
+    requires { bits < 4 }
+    ensures { result ≡ bits_value bits }
+{
+    match bits {
         0 => Value::Signal {
             on: false,
             off: false,
