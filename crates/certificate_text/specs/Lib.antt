@@ -1,2 +1,4 @@
+pub mod Limits
 pub mod LocalNames
+pub mod RunLines
 pub mod Laws

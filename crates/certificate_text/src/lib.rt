@@ -1,8 +1,14 @@
-//! The texts of certificates, both ways.
+//! The texts of certificates, both ways: the names of local cells, and the lines that list the leaves of an instant.
 #![tactic(auto)]
 
+mod fault;
 mod laws;
+mod limits;
 mod local_name;
+mod run_line;
 
-pub use laws::names_law;
+pub use fault::EntryLineFault;
+pub use laws::{limits_law, names_law, runs_law};
+pub use limits::LONGEST_ENTRY_LINE;
 pub use local_name::{read_name, write_name};
+pub use run_line::{read_run, write_run};
