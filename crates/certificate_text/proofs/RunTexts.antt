@@ -27,6 +27,7 @@ digit_no_blank b d = go (b == 32) refl (b == 9) refl (b == 13) refl
   where
     not_here : (k : ℕ) → is_digit k ≡ false → b == k ≡ true → ⊥
     not_here k off e = let w : false ≡ true = sym off ∙ ap is_digit (sym (eqb-true b k e)) ∙ d in absurd (cc)
+
     go : (x : Bool) → b == 32 ≡ x → (y : Bool) → b == 9 ≡ y → (z : Bool) → b == 13 ≡ z → is_blank b ≡ false
     go true ex y ey z ez = absurd (not_here 32 refl ex)
     go false ex true ey z ez = absurd (not_here 9 refl ey)

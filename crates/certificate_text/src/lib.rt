@@ -6,6 +6,8 @@ mod laws;
 mod limits;
 mod local_name;
 mod run_line;
+#[cfg(test)]
+mod tests;
 
 pub use fault::EntryLineFault;
 pub use laws::{limits_law, names_law, runs_law};
