@@ -1,2 +1,3 @@
 pub mod NameTexts
 pub mod RunTexts
+pub mod LocalTokenTexts

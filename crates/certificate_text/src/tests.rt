@@ -1,8 +1,8 @@
 //! Names and lines of certificates, worked out by hand.
-use crate::{EntryLineFault, read_name, read_run, write_name, write_run};
+use crate::{EntryLineFault, read_local_token, read_name, read_run, write_name, write_run};
 use std::alloc::Global;
 use std::test::Fail;
-use token_system::CellName;
+use token_system::{CellName, Token};
 
 /// Whether the bytes are the name of the cell of this node under these births.
 fn names(alloc: Global, bytes: &[u8], node: u32, births: &[u32]) -> Result<bool, Fail> {
@@ -106,6 +106,38 @@ fn a_run_line_has_up_to_1048576_bytes(rt: HostRuntime) -> Result<(), Fail> {
     match read_run(alloc, &line) {
         Ok(_) => assert!(rt; false, "it is read"),
         Err(fault) => assert_eq!(rt; fault, EntryLineFault::Bad { offset: 1_048_576 }),
+    }
+    Ok(())
+}
+
+#[test]
+fn a_token_of_a_local_cell_is_a_name_and_what_is_said_of_it(rt: HostRuntime) -> Result<(), Fail> {
+    let alloc = rt.alloc();
+    for (bytes, first, second) in [
+        (b"@3.0".as_slice(), Token::On, None),
+        (b"!@3.0", Token::Off, None),
+        (b"#@3.0", Token::Clash, None),
+        (b"@3.0>=-5", Token::AtLeast(-5), None),
+        (b"@3.0<=007", Token::AtMost(7), None),
+        (b"@3.0=2", Token::AtLeast(2), Some(Token::AtMost(2))),
+    ] {
+        let Some(token) = read_local_token(alloc, bytes)? else {
+            assert!(rt; false, "{bytes:?} is not read");
+            return Ok(());
+        };
+        assert_eq!(rt; (token.first, token.second), (first, second), "{bytes:?}");
+    }
+    for bytes in [
+        b"".as_slice(),
+        b"a",
+        b"!a",
+        b"@3.0>5",
+        b"@3.0=",
+        b"!@3.0=1",
+        b">=1",
+        b"@3=>=1",
+    ] {
+        assert!(rt; read_local_token(alloc, bytes)?.is_none(), "{bytes:?}");
     }
     Ok(())
 }
