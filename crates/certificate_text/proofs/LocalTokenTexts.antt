@@ -1,8 +1,7 @@
 -- A marked name of a local cell is the text of its token, and what is no such text.
-use Rattle.std.proofs.Common.{◌≡◌, ℕ, List, [], ◌∷◌, ◌++◌, Some, None, refl, sym, ap, ◌∙◌, subst}
-use Rattle.std.specs.Prelude.{Result, Ok, Err, Option, IfOk, IfSome, IsNone, codes, take, drop}
+use Rattle.std.proofs.Common.{◌≡◌, ℕ, List, ◌∷◌, Some, None, sym, ◌∙◌}
+use Rattle.std.specs.Prelude.{Result, Ok, Err, Option, IfOk, IfSome, take, drop}
 use Rattle.token_system.specs.declared.cell.Token.{Token}
-use Rattle.token_system.specs.declared.cell.Token.TheVariants.{Off, Clash}
 use Rattle.token_system.specs.declared.name.CellName.{CellName}
 use Rattle.token_system.specs.Texts.{IsTail}
 use Rattle.certificate_text.specs.declared.local_token.LocalToken.{LocalToken}
