@@ -55,18 +55,18 @@ pub record PartInFront (cells : List CellDecl) (unit : Bool) (Others : List Node
   pub writes : text ≡ part_text cells unit agent ++ later
   pub others : Others rest later
 
--- a mark stands in front of the text, and the others make the rest
-pub record MarkInFront (mark : List ℕ) (Others : List Node → List ℕ → Type 0) (left : List Node) (text : List ℕ) : Type 0 where
+-- a fixed text stands in front, and the others make the rest
+pub record FixedTextInFront (fixed : List ℕ) (Others : List Node → List ℕ → Type 0) (left : List Node) (text : List ℕ) : Type 0 where
   pub later : List ℕ
-  pub writes : text ≡ mark ++ later
+  pub writes : text ≡ fixed ++ later
   pub others : Others left later
 
 -- what is pending makes of the nodes that are left this text
 abbrev pub Writes : List CellDecl → List Pending → List Node → List ℕ → Type 0
 Writes cells [] left text = text ≡ []
 Writes cells (Part unit ∷ ps) left text = PartInFront cells unit (Writes cells ps) left text
-Writes cells (Bars ∷ ps) left text = MarkInFront (codes " || ") (Writes cells ps) left text
-Writes cells (Brace ∷ ps) left text = MarkInFront (codes " }") (Writes cells ps) left text
+Writes cells (Bars ∷ ps) left text = FixedTextInFront (codes " || ") (Writes cells ps) left text
+Writes cells (Brace ∷ ps) left text = FixedTextInFront (codes " }") (Writes cells ps) left text
 
 -- the first node of a part that stands in front: it writes its beginning, and what is pending then writes the rest
 pub record NodeInFront (cells : List CellDecl) (unit : Bool) (ps : List Pending) (left : List Node) (text : List ℕ) : Type 0 where
@@ -206,18 +206,18 @@ within : (all : List Node) (at : ℕ) (node : Node) (rest : List Node) → drop 
 within all at node rest e = let n = ap length e in omega (arith, length-drop at all)
 
 module _ (cells : List CellDecl) (whole : List ℕ) (all : List Node) (at : ℕ) (qs : List Pending) (text : List ℕ) where
-  mark_written : (mark left after : List ℕ) → text ++ left ≡ whole → after ≡ text ++ mark → (m : MarkInFront mark (Writes cells qs) (drop at all) left) → Printed cells whole all at qs after
-  mark_written mark left after e ea m = record {
+  fixed_written : (fixed left after : List ℕ) → text ++ left ≡ whole → after ≡ text ++ fixed → (m : FixedTextInFront fixed (Writes cells qs) (drop at all) left) → Printed cells whole all at qs after
+  fixed_written fixed left after e ea m = record {
     left = m.later;
-    whole_is = ap (λ (t : List ℕ). t ++ m.later) ea ∙ append_assoc text mark m.later ∙ ap (λ (t : List ℕ). text ++ t) (sym m.writes) ∙ e;
+    whole_is = ap (λ (t : List ℕ). t ++ m.later) ea ∙ append_assoc text fixed m.later ∙ ap (λ (t : List ℕ). text ++ t) (sym m.writes) ∙ e;
     pending = m.others;
   }
 
   pub printed-bars : (after : List ℕ) → Printed cells whole all at (Bars ∷ qs) text → after ≡ text ++ codes " || " → Printed cells whole all at qs after
-  printed-bars after w ea = mark_written (codes " || ") w.left after w.whole_is ea w.pending
+  printed-bars after w ea = fixed_written (codes " || ") w.left after w.whole_is ea w.pending
 
   pub printed-brace : (after : List ℕ) → Printed cells whole all at (Brace ∷ qs) text → after ≡ text ++ codes " }" → Printed cells whole all at qs after
-  printed-brace after w ea = mark_written (codes " }") w.left after w.whole_is ea w.pending
+  printed-brace after w ea = fixed_written (codes " }") w.left after w.whole_is ea w.pending
 
   module _ (unit : Bool) (w : Printed cells whole all at (Part unit ∷ qs) text) where
     abbrev front : NodeInFront cells unit qs (drop at all) w.left

@@ -20,6 +20,7 @@ use Rattle.agent_core.specs.Listing.{size}
 use Rattle.agent_core.specs.Programs.{CoreProgram}
 use Rattle.agent_core.proofs.Bools.{first_of_both, second_of_both}
 use Rattle.agent_core.proofs.ListingTrees.{length-listing, root_tree}
+use Rattle.program_lexemes.specs.Limits.{longest_core_text}
 use Rattle.core_text.specs.CoreTexts.{domain_text, cell_text, decl_text, decl_lines, name_at, decl_at, constraint_text, as_unit, agent_text, core_text}
 use Rattle.core_text.specs.GoodNames.{HasGoodNames}
 
@@ -161,7 +162,7 @@ front-get (x ∷ xs) zero i d e = absurd (cc)
 front-get (x ∷ xs) (suc n) zero d e = e
 front-get (x ∷ xs) (suc n) (suc i) d e = front-get xs n i d e
 
-pub text_length : (p : CoreProgram) → IsWellFormed p → HasGoodNames p → length (core_text p) ≤ 4194304
+pub text_length : (p : CoreProgram) → IsWellFormed p → HasGoodNames p → length (core_text p) ≤ longest_core_text
 text_length p is good =
     let root = root_tree p.nodes is.tree in
     let nodes = ap length is.tree.1 ∙ length-listing 0 is.tree.0 ∙ ap size (sym root) in

@@ -1,6 +1,7 @@
 //! The outputs of a run, by walks over the whole history at each instant.
 ghost use Rattle.std.specs.Prelude.{◌≡◌, ◌+◌, ◌<◌, ◌≤◌, ◌^◌, ℕ, List, All, IfOk, OnOk, length};
 ghost use Rattle.token_system.specs.Stores.{StoreMap};
+ghost use Rattle.agent_core.specs.Limits.{most_instants};
 ghost use Rattle.agent_core.specs.WellFormed.{IsWellFormed};
 ghost use Rattle.agent_core.specs.Outputs.{IsOutput, IsRun};
 ghost use Rattle.agent_core.specs.Stores.{IsInput, IsStore};
@@ -75,7 +76,7 @@ pub fn slow_run(
 ) -> Result<Vec<Store>, Memory>
     requires stratified { Stratifies program.now levels.now }
     requires inputs { All (IsInput program.now) ins.now }
-    requires few { length ins.now ≤ 65536 }
+    requires few { length ins.now ≤ most_instants }
     ensures run { IfOk result (λ outs. IsRun program.now ins.now outs.items) }
     ensures complete { IfOk result (λ outs. (others : List StoreMap)
         → IsRun program.now ins.now others → others ≡ outs.items) }

@@ -1,4 +1,5 @@
 ghost use Rattle.std.specs.Prelude.{◌<◌, ◌≤◌, All, IfOk, length};
+ghost use Rattle.agent_core.specs.Limits.{most_instants};
 ghost use Rattle.agent_core.specs.WellFormed.{IsWellFormed};
 ghost use Rattle.agent_core.specs.Stores.{IsInput};
 
@@ -153,7 +154,7 @@ fn silence_and_first_on(alloc: Global, program: &Program) -> Result<Vec<Store>, 
 /// The outputs on these inputs: for each the letters of the signals `a` and `b` that it entails, and a semicolon.
 fn outputs(alloc: Global, program: &Program, ins: Vec<Store>) -> Result<String, Fail>
     requires inputs { All (IsInput program.now) ins.items }
-    requires few { length ins.items ≤ 65536 }
+    requires few { length ins.items ≤ most_instants }
 {
     let levels = match strata(alloc, program) {
         Ok(levels) => levels,

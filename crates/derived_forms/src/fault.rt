@@ -3,16 +3,17 @@ ghost use Rattle.std.specs.Prelude.{◌≡◌};
 ghost use Rattle.derived_forms.specs.declared.fault.ExpandFault.TheVariants.{Memory};
 
 use std::alloc::AllocError;
+use tdcc_reader::ReadFault;
 use thiserror::Error;
 
 /// Why no program was made of a surface.
 #[derive(Clone, Copy, Debug, PartialEq, Eq, Error)]
 pub enum ExpandFault {
-    /// The program would have more than 4,096 nodes.
-    #[error("over 4096 nodes")]
+    /// The program would have more than [`agent_core::MAX_NODES`] nodes.
+    #[error("{}", ReadFault::TooManyNodes)]
     TooManyNodes,
-    /// The program would have more than 1,024 cells, and no more than 4,096 nodes.
-    #[error("over 1024 cells")]
+    /// The program would have more than [`agent_core::MAX_CELLS`] cells, and no more nodes than it may.
+    #[error("{}", ReadFault::TooManyCells)]
     TooManyCells,
     /// An allocation failed.
     #[error("out of memory")]

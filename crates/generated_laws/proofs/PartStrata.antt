@@ -29,14 +29,14 @@ watch_agent n i j h d =
     New n (Par (Par w (Hence w)) (Par g (Hence g)))
 
 -- a hidden cell has its number, and hides no declared one
-own_cell : (mark n : ℕ) → bound_cell (binding mark n ∷ []) mark ≡ n
-own_cell mark n = ap (λ (b : Bool). if b then n else mark) (eq-eqb mark mark refl)
+own_cell : (binder n : ℕ) → bound_cell (binding binder n ∷ []) binder ≡ n
+own_cell binder n = ap (λ (b : Bool). if b then n else binder) (eq-eqb binder binder refl)
 
-other_cell : (mark n i : ℕ) → i < mark → bound_cell (binding mark n ∷ []) i ≡ i
-other_cell mark n i less = go (nat_eq mark i) refl
+other_cell : (binder n i : ℕ) → i < binder → bound_cell (binding binder n ∷ []) i ≡ i
+other_cell binder n i less = go (nat_eq binder i) refl
   where
-    go : (b : Bool) → nat_eq mark i ≡ b → (if b then n else i) ≡ i
-    go true e = let same = eqb-true mark i e in absurd (omega arith)
+    go : (b : Bool) → nat_eq binder i ≡ b → (if b then n else i) ≡ i
+    go true e = let same = eqb-true binder i e in absurd (omega arith)
     go false e = refl
 
 when_numbered : (m n i j : ℕ) → i < 32 → j < 32 → bound_agent [] n (part_sketch m (Starts i j)) ≡ when_agent n i j n

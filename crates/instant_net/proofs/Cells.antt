@@ -1,5 +1,5 @@
 -- Cells in a row, and the cells of a net in their order.
-use Rattle.std.proofs.Common.{◌≡◌, ℕ, zero, suc, ◌+◌, ◌<◌, ◌≤◌, Bool, List, [], ◌∷◌, ◌++◌, length, get_or, Some, None, refl, sym, ap, ◌∙◌, subst, arith, length-append, ◌⊎◌, inl, inr}
+use Rattle.std.proofs.Common.{◌≡◌, ℕ, zero, suc, ◌+◌, ◌*◌, ◌<◌, ◌≤◌, Bool, List, [], ◌∷◌, ◌++◌, length, get_or, Some, None, refl, sym, ap, ◌∙◌, subst, arith, length-append, ◌⊎◌, inl, inr}
 use Rattle.std.specs.Prelude.{All, Contains, flat_map, slice_get, slice_index, cond, ◌==◌}
 use Rattle.std.specs.Ordering.{nat_cmp}
 use Rattle.std.specs.declared.cmp.Ordering.TheVariants.{Less, Equal, Greater}
@@ -9,6 +9,8 @@ use Rattle.std.proofs.lemmas.List.{append-nil}
 use Rattle.std.proofs.lemmas.Grind.{flat_map-append}
 use Rattle.std.proofs.lemmas.List.Elements.{All-push, All-append, All-same, All-weaker, All-nil}
 use Rattle.std.proofs.lemmas.Option.{get_or_from_slice_get, slice_get_cases}
+use Rattle.token_system.specs.declared.cell.Kind.{Kind}
+use Rattle.token_system.specs.declared.cell.Kind.TheVariants.{Signal, Number}
 use Rattle.token_system.specs.declared.name.CellName.{CellName}
 use Rattle.token_system.specs.declared.name.CellName.TheVariants.{Declared, Local}
 use Rattle.token_system.specs.Names.{name_cmp}
@@ -20,8 +22,10 @@ use Rattle.agent_laws.specs.Ways.{new_cell, cell_named}
 use Rattle.instant_net.specs.declared.parts.NetCell.{NetCell}
 use Rattle.instant_net.specs.NamedLeaves.{NamedLeaf, names_of}
 use Rattle.instant_net.specs.Opened.{IsCellOf, AreInOrder}
+use Rattle.instant_net.specs.Limits.{most_instant_cells}
 use Rattle.instant_net.specs.Words.{AreLaidOut, hows, kind_hows}
 use Rattle.instant_net.specs.Collecting.{IsLocal, IsSpokenBy, cell_names, declared_names, IsRow, AreCellsFor}
+use Rattle.instant_net.proofs.Counts.{length-map}
 use Rattle.instant_net.proofs.Lists.{get-left, get-right}
 
 -- A ROW
@@ -38,6 +42,30 @@ named-cell p (Declared n) d named = named.1
 named-cell p (Local m births) d (cell, body, new, found, long) =
     let same : new_cell (slice_get p.nodes m) ≡ cell = ap new_cell new in
     ap (slice_get p.cells) same ∙ found
+
+-- a row has a cell for each of its names
+pub names-count : (cells : List NetCell) (names : List CellName) → cell_names cells ≡ names → length cells ≡ length names
+names-count cells names same = sym (length-map (λ (c : NetCell). c.name) cells) ∙ ap length same
+
+kind_hows-few : (k : Kind) → length (kind_hows k) ≤ 2
+kind_hows-few Signal = omega arith
+kind_hows-few Number = omega arith
+
+hows-few : (cells : List NetCell) → length (hows cells) ≤ 2 * length cells
+hows-few [] = omega arith
+hows-few (c ∷ cells) =
+    let here = kind_hows-few c.cell.kind in
+    let rest = hows-few cells in
+    let both = length-append (kind_hows c.cell.kind) (hows cells) in
+    omega arith
+
+-- the words of one more cell can be numbered
+pub row-room : (p : CoreProgram) (table : List ℕ) (cells : List NetCell) (words more : ℕ) (k : Kind) → IsRow p table cells words → length cells < most_instant_cells → more ≡ length (kind_hows k) → words + more < 4294967296
+row-room p table cells words more k h few e =
+    let at = h.words_are in
+    let here = kind_hows-few k in
+    let all = hows-few cells in
+    omega arith
 
 pub row-next : (p : CoreProgram) (table : List ℕ) (cells cells' : List NetCell) (words more : ℕ) (c : NetCell) → IsRow p table cells words → IsCellOf p table c → c.first ≡ words → more ≡ length (kind_hows c.cell.kind)
     → words + more < 4294967296 → cells' ≡ cells ++ c ∷ [] → IsRow p table cells' (words + more)
@@ -117,7 +145,7 @@ all-in_order p (suc n) names all h = joined (declared_names n) (Declared n) name
 
 -- WHICH CELLS THERE ARE
 
-length-declared : (n : ℕ) → length (declared_names n) ≡ n
+pub length-declared : (n : ℕ) → length (declared_names n) ≡ n
 length-declared zero = refl
 length-declared (suc n) = let h = length-declared n in omega (arith, length-append (declared_names n) (Declared n ∷ []))
 
@@ -154,13 +182,16 @@ declared-each ls (suc n) = All-push (λ q. ((k : ℕ) × (q ≡ Declared k)) ⊎
 
 -- the row of the declared cells and of the local ones that leaves speak of
 pub cells-are : (p : CoreProgram) (table : List ℕ) (ls : List NamedLeaf) (cells : List NetCell) (words : ℕ) (names : List CellName) → IsWellFormed p → IsRow p table cells words → cell_names cells ≡ declared_names p.declared ++ names
-    → All (IsSpokenBy p ls) names → IsStrictlySortedBy name_cmp names → length cells < 4294967296 → AreCellsFor p table ls cells
+    → All (IsSpokenBy p ls) names → IsStrictlySortedBy name_cmp names → p.declared + length names ≤ most_instant_cells → AreCellsFor p table ls cells
 cells-are p table ls cells words names is row same spoken order few =
     let P : CellName → Type 0 = λ q. ((k : ℕ) × (q ≡ Declared k)) ⊎ Contains (flat_map names_of ls) q in
     let locals : All (IsLocal p) names = All-weaker (IsSpokenBy p ls) (IsLocal p) (λ q h. h.local) names spoken in
     let each : All P names = All-weaker (IsSpokenBy p ls) P (λ q h. inr h.spoken) names spoken in
     let at = row.words_are in
     let most = row.few_words in
+    let here = names-count cells (declared_names p.declared ++ names) same in
+    let both = length-append (declared_names p.declared) names in
+    let declared = length-declared p.declared in
     record {
       program = is;
       each = row.each;
@@ -168,6 +199,6 @@ cells-are p table ls cells words names is row same spoken order few =
       laid_out = row.laid_out;
       declared = λ k lt. named-at cells k (Declared k) (ap (λ xs. slice_get xs k) same ∙ get-left (declared_names p.declared) names k (Declared k) (declared-at p.declared k lt));
       spoken = all-unmap P cells (All-same P (cell_names cells) (declared_names p.declared ++ names) same (All-append P (declared_names p.declared) names (declared-each ls p.declared) each));
-      few = few;
+      few = omega arith;
       few_words = omega arith;
     }

@@ -10,6 +10,7 @@ pub mod Rooms
 pub mod Adding
 pub mod Covering
 pub mod SpokenNames
+pub mod FewNames
 pub mod Cells
 pub mod NetsMade
 pub mod NetRests

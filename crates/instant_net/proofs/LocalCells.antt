@@ -39,7 +39,7 @@ news-cells n d (New cell a) = ap (λ (xs : List ℕ). cell ∷ xs) (news-cells (
 news-cells n d (Hence a) = news-cells (suc n) d a
 news-cells n d (Next a) = news-cells (suc n) d a
 
-count_up-get : (first n k : ℕ) → k < n → slice_get (count_up first n) k ≡ Some (first + k)
+pub count_up-get : (first n k : ℕ) → k < n → slice_get (count_up first n) k ≡ Some (first + k)
 count_up-get first zero k lt = absurd (omega arith)
 count_up-get first (suc n) zero lt = ap Some (let h : first ≡ first + 0 = omega arith in h)
 count_up-get first (suc n) (suc k) lt = count_up-get (suc first) n k (let h : k < n = omega arith in h) ∙ ap Some (let h : suc first + k ≡ first + suc k = omega arith in h)

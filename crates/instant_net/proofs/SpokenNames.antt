@@ -27,7 +27,7 @@ use Rattle.instant_net.specs.Collecting.{IsLocal, IsSpokenBy, IsAskedBy, AddsAsk
 use Rattle.instant_net.proofs.NodeLeaves.{below, agent-is, then-below, else-below, new-below, par-below}
 use Rattle.instant_net.proofs.Lists.{Contains-map}
 
-abbrev ask_names : List Named → List CellName
+abbrev pub ask_names : List Named → List CellName
 ask_names xs = map (λ x. x.name) xs
 
 -- ONE CONSTRAINT
@@ -71,13 +71,13 @@ module _ (p : CoreProgram) (b : List ℕ) where
 -- LEAVES
 
 -- the names that the guards of a path speak of
-abbrev path_names : CoreProgram → List core.Guard → List CellName
+abbrev pub path_names : CoreProgram → List core.Guard → List CellName
 path_names p path = ask_names (flat_map (λ g. g.ask) (map (guard_named p) path))
 
-abbrev spoken_in : CoreProgram → List core.Leaf → List CellName
+abbrev pub spoken_in : CoreProgram → List core.Leaf → List CellName
 spoken_in p ls = flat_map names_of (map (leaf_named p) ls)
 
-spoken-append : (p : CoreProgram) (xs ys : List core.Leaf) → spoken_in p (xs ++ ys) ≡ spoken_in p xs ++ spoken_in p ys
+pub spoken-append : (p : CoreProgram) (xs ys : List core.Leaf) → spoken_in p (xs ++ ys) ≡ spoken_in p xs ++ spoken_in p ys
 spoken-append p xs ys = ap (flat_map names_of) (map-append (leaf_named p) xs ys) ∙ flat_map-append names_of (map (leaf_named p) xs) (map (leaf_named p) ys)
 
 one-path : (p : CoreProgram) (l : core.Leaf) (q : CellName) → Contains (path_names p l.path) q → Contains (spoken_in p (l ∷ [])) q
@@ -92,7 +92,7 @@ one-told p l q h =
     let asks : List Named = flat_map (λ g. g.ask) (map (guard_named p) l.path) in
     subst (λ xs. Contains xs q) (sym (append-nil (ask_names (told ++ asks)) ∙ map-append (λ (x : Named). x.name) told asks)) (Contains-append_left (ask_names told) (ask_names asks) q h)
 
-path_names-append : (p : CoreProgram) (path : List core.Guard) (g : core.Guard) → path_names p (path ++ g ∷ []) ≡ path_names p path ++ ask_names (guard_named p g).ask
+pub path_names-append : (p : CoreProgram) (path : List core.Guard) (g : core.Guard) → path_names p (path ++ g ∷ []) ≡ path_names p path ++ ask_names (guard_named p g).ask
 path_names-append p path g =
     ap (λ xs. ask_names (flat_map (λ y. y.ask) xs)) (map-append (guard_named p) path (g ∷ []))
     ∙ ap ask_names (flat_map-append (λ (y : NamedGuard). y.ask) (map (guard_named p) path) (guard_named p g ∷ []) ∙ ap (λ xs. flat_map (λ y. y.ask) (map (guard_named p) path) ++ xs) (append-nil (guard_named p g).ask))

@@ -1,5 +1,5 @@
 //! The cells of an instant: the declared ones, and the local ones that its leaves speak of.
-ghost use Rattle.std.specs.Prelude.{◌≡◌, ℕ, ◌++◌, ◌∷◌, [], All, IfOk, length};
+ghost use Rattle.std.specs.Prelude.{◌≡◌, ℕ, ◌+◌, ◌<◌, ◌≤◌, ◌++◌, ◌∷◌, [], All, IfOk, length};
 ghost use Rattle.token_system.specs.Names.{name_cmp};
 ghost use Rattle.agent_core.specs.declared.node.CellDecl.{CellDecl};
 ghost use Rattle.agent_core.specs.WellFormed.{IsWellFormed};
@@ -7,6 +7,7 @@ ghost use Rattle.agent_core.specs.Names as names;
 ghost use Rattle.agent_core.specs.Names.{IsClosure};
 ghost use Rattle.std.specs.List.Sorted.{IsStrictlySortedBy};
 ghost use Rattle.instant_net.specs.Words.{cell_hows};
+ghost use Rattle.instant_net.specs.Limits.{most_instant_cells, most_roots};
 ghost use Rattle.agent_core.specs.Scope.{ConstraintFits};
 ghost use Rattle.agent_laws.specs.Laws.{AreClosures};
 ghost use Rattle.agent_laws.specs.Ways.{cell_named};
@@ -16,10 +17,9 @@ ghost use Rattle.instant_net.specs.Covering.{CoversAsk, CoversNode, RootsCovered
 ghost use Rattle.instant_net.specs.Collecting.{IsLocal, IsSpokenBy, AddsAsked, AddsSpoken, cell_names, declared_names, IsRow, AreCellsFor};
 
 use crate::locals::{Local, local_of};
-use crate::numbers::number_of;
 use crate::parts::NetCell;
 use agent_core::{Closure, Constraint, Levels, Node, Program};
-use std::alloc::{AllocError, Global};
+use std::alloc::Global;
 use std::collections::BTreeSet;
 use token_system::{Births, Cell, CellName, Kind, Memory};
 
@@ -158,22 +158,20 @@ impl Row {
         requires named { (d : CellDecl) × names.Names program.now name d }
         requires number { cell ≡ cell_named program.now name }
         requires row { IsRow program.now levels.now self.old.cells.items self.old.words }
+        requires few { length self.old.cells.items < most_instant_cells }
         ensures row { IfOk result (λ _. IsRow program.now levels.now self.new.cells.items self.new.words) }
         ensures names { IfOk result (λ _. cell_names self.new.cells.items ≡ cell_names self.old.cells.items ++ name ∷ []) }
     {
         let decl = program.cells()[cell as usize].cell;
         let stratum = levels.list()[cell as usize];
         let first = self.words;
-        let Some(words) = first.checked_add(words_of(decl)) else {
-            return Err(AllocError);
-        };
         self.cells.push(NetCell {
             name,
             cell: decl,
             stratum,
             first,
         })?;
-        self.words = words;
+        self.words = first + words_of(decl);
         Ok(())
     }
 
@@ -202,6 +200,7 @@ impl Row {
         requires levels { length levels.now ≡ length program.now.cells }
         requires row { IsRow program.now levels.now self.old.cells.items self.old.words }
         requires locals { All (IsLocal program.now) names.keys }
+        requires few { length self.old.cells.items + length names.keys ≤ most_instant_cells }
         ensures row { IfOk result (λ _. IsRow program.now levels.now self.new.cells.items self.new.words) }
         ensures names { IfOk result (λ _. cell_names self.new.cells.items ≡ cell_names self.old.cells.items ++ names.keys) }
         ensures order { IfOk result (λ _. IsStrictlySortedBy name_cmp names.keys) }
@@ -226,6 +225,7 @@ pub(crate) fn net_cells(
     requires locals { AreLocalsOf program.now locals.now }
     requires levels { length levels.now ≡ length program.now.cells }
     requires closures { AreClosures program.now roots.now }
+    requires few { length roots.now ≤ most_roots }
     ensures cells { IfOk result (λ cells. AreCellsFor program.now levels.now (root_leaves program.now roots.now t) cells.items) }
     ensures covered { IfOk result (λ cells. RootsCovered program.now t (cell_names cells.items) roots.now) }
 {
@@ -236,6 +236,5 @@ pub(crate) fn net_cells(
     };
     row.add_declared(program, levels)?;
     row.add_locals(program, levels, names)?;
-    number_of(row.cells.len())?;
     Ok(row.cells)
 }

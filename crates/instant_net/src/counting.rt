@@ -1,6 +1,7 @@
 //! How many leaves there are.
 ghost use Rattle.std.specs.Prelude.{◌≡◌, ℕ, ◌<◌, ◌≤◌, length};
 ghost use Rattle.agent_core.specs.Agents.{agent_at};
+ghost use Rattle.agent_core.specs.Limits.{most_nodes};
 ghost use Rattle.agent_laws.specs.Laws.{AreClosures};
 ghost use Rattle.instant_net.specs.Limits.{most_roots};
 ghost use Rattle.instant_net.specs.Programs.{agent_leaf_count, root_leaves};
@@ -11,7 +12,7 @@ use agent_core::{Closure, Node, Program};
 fn node_leaves(program: &Program, node: u32) -> u64
     requires { node < length program.now.nodes }
     ensures count { result ≡ agent_leaf_count (agent_at program.now.nodes node) }
-    ensures bounded { result ≤ 4096 }
+    ensures bounded { result ≤ most_nodes }
 {
     match &program.nodes()[node as usize] {
         Node::Skip | Node::Tell(_) | Node::Hence { .. } | Node::Next { .. } => 1,

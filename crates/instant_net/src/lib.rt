@@ -7,7 +7,6 @@ mod counting;
 mod laws;
 mod locals;
 mod net;
-mod numbers;
 mod opening;
 mod parts;
 mod walking;

@@ -6,5 +6,6 @@ pub mod Splits
 pub mod WholeLines
 pub mod TextEnds
 pub mod TextReads
+pub mod SeveralCalls
 pub mod PieceSteps
 pub mod SureRooms

@@ -1,12 +1,12 @@
 -- Reads after other reads.
-use Rattle.std.proofs.Common.{◌≡◌, ◌≢◌, ℕ, ◌-◌, ◌<◌, ◌≤◌, Bool, true, false, List, [], ◌∷◌, ◌++◌, length, take, drop, refl, sym, ap, ◌∙◌, subst, append_assoc, arith}
+use Rattle.std.proofs.Common.{◌≡◌, ◌≢◌, ℕ, ◌+◌, ◌-◌, ◌<◌, ◌≤◌, Bool, true, false, List, [], ◌∷◌, ◌++◌, length, take, drop, refl, sym, ap, ◌∙◌, subst, append_assoc, arith, length-append}
 use Rattle.std.specs.Prelude.{Option, Some, Result, Ok, Err}
 use Rattle.std.proofs.lemmas.List.{append-nil, length-take-le}
 use Rattle.std.proofs.lemmas.List.Elements.{All-append, All-cons, All-head, All-nil, All-tail}
 use Rattle.tdcc_base.specs.declared.outside.Failed.{Failed}
 use Rattle.tdcc_base.specs.declared.read_ahead.ReadAhead.{ReadAhead}
 use Rattle.tdcc_base.specs.Limits.{read_size}
-use Rattle.tdcc_base.specs.Lines.{HasNoFeed}
+use Rattle.tdcc_base.specs.Lines.{HasNoFeed, IsOpenLine}
 use Rattle.tdcc_base.specs.Reads.{ReadRule, GivesPiece, GivesPieces, bytes_given, WasNeeded, LastRead, ReadsOf, IsNothing, HandsOut}
 use Rattle.tdcc_base.specs.Unread.{pending, AppendsLine}
 use Rattle.tdcc_base.specs.declared.read_ahead.LineBreak.TheVariants as breaks
@@ -98,7 +98,7 @@ module _ {S : Type 0} (gives : ReadRule S) (before after : ReadAhead) (old new :
     takes = sym (ap (λ xs. xs ++ pending after) none);
   }
 
-last_for : {S : Type 0} (gives : ReadRule S) (N M : Type 0) (was now fails : Bool) (old new : S) → (N → M) → LastRead gives N was now fails old new → LastRead gives M was now fails old new
+pub last_for : {S : Type 0} (gives : ReadRule S) (N M : Type 0) (was now fails : Bool) (old new : S) → (N → M) → LastRead gives N was now fails old new → LastRead gives M was now fails old new
 last_for gives N M true now fails old new f r = r
 last_for gives N M false true fails old new f r = (r.0, f r.1)
 last_for gives N M false false true old new f r = (r.0, f r.1)
@@ -192,47 +192,62 @@ module _ {S : Type 0} (gives : ReadRule S) (In Out : List ℕ → Type 0) (befor
 
 -- A LINE SO FAR
 
--- bytes of a line that were handed out, of what was held and read
-pub record LineSoFar {S : Type 0} (gives : ReadRule S) (before now : ReadAhead) (into_before into_now : List ℕ) (old new : S) : Type 0 where
+-- bytes of a line that were handed out, of what was held and read, where there is room for so many
+pub record LineSoFar {S : Type 0} (gives : ReadRule S) (room : ℕ) (before now : ReadAhead) (into_before into_now : List ℕ) (old new : S) : Type 0 where
   pub line : List ℕ
   pub appended : into_now ≡ into_before ++ line
-  pub no_feed : HasNoFeed line
-  pub reads : HasRead gives HasNoFeed (pending before) line (pending now) old new
+  pub part : IsOpenLine room line
+  pub reads : HasRead gives (IsOpenLine room) (pending before) line (pending now) old new
   pub ended : now.ended ≡ before.ended
 
-pub LineSoFar-start : {S : Type 0} (gives : ReadRule S) (ahead : ReadAhead) (into : List ℕ) (s : S) → LineSoFar gives ahead ahead into into s s
-LineSoFar-start gives ahead into s = record { line = []; appended = sym (append-nil into); no_feed = All-nil (λ b. b ≢ 10); reads = HasRead-start gives HasNoFeed (pending ahead) s; ended = refl }
+pub LineSoFar-start : {S : Type 0} (gives : ReadRule S) (room : ℕ) (ahead : ReadAhead) (into : List ℕ) (s : S) → LineSoFar gives room ahead ahead into into s s
+LineSoFar-start gives room ahead into s = record {
+  line = [];
+  appended = sym (append-nil into);
+  part = record { no_feed = All-nil (λ b. b ≢ 10); fits = omega arith };
+  reads = HasRead-start gives (IsOpenLine room) (pending ahead) s;
+  ended = refl;
+}
 
-module _ {S : Type 0} (gives : ReadRule S) (before mid_ahead : ReadAhead) (into_before into_mid : List ℕ) (old mid : S) (l : LineSoFar gives before mid_ahead into_before into_mid old mid) where
-  no_more : (bytes : List ℕ) → IsNothing bytes → HasNoFeed (l.line ++ bytes)
-  no_more bytes none = subst HasNoFeed (sym (ap (λ xs. l.line ++ xs) none ∙ append-nil l.line)) l.no_feed
+module _ {S : Type 0} (gives : ReadRule S) (room : ℕ) (before mid_ahead : ReadAhead) (into_before into_mid : List ℕ) (old mid : S) (l : LineSoFar gives room before mid_ahead into_before into_mid old mid) where
+  no_more : (bytes : List ℕ) → IsNothing bytes → IsOpenLine room (l.line ++ bytes)
+  no_more bytes none = subst (IsOpenLine room) (sym (ap (λ xs. l.line ++ xs) none ∙ append-nil l.line)) l.part
 
   pub line_byte : (after : ReadAhead) (into_now : List ℕ) (new : S) (r : Result (Option ℕ) Failed) (b : ℕ) → r ≡ Ok (Some b) → after.ended ≡ mid_ahead.ended → ReadsOf gives IsNothing (HandsOut r) mid_ahead after false mid new
-      → b ≢ 10 → into_now ≡ into_mid ++ b ∷ [] → LineSoFar gives before after into_before into_now old new
-  line_byte after into_now new r b is same reads nb e = record {
+      → b ≢ 10 → length into_mid < length into_before + room → into_now ≡ into_mid ++ b ∷ [] → LineSoFar gives room before after into_before into_now old new
+  line_byte after into_now new r b is same reads nb some e = record {
     line = l.line ++ b ∷ [];
     appended = e ∙ ap (λ xs. xs ++ b ∷ []) l.appended ∙ append_assoc into_before l.line (b ∷ []);
-    no_feed = All-append (λ b. b ≢ 10) l.line (b ∷ []) l.no_feed (All-cons (λ b. b ≢ 10) b [] nb (All-nil (λ b. b ≢ 10)));
-    reads = reads_on gives IsNothing HasNoFeed before mid_ahead l.line old mid l.reads no_more after new (HandsOut r) (b ∷ []) same reads
+    part = record {
+      no_feed = All-append (λ b. b ≢ 10) l.line (b ∷ []) l.part.no_feed (All-cons (λ b. b ≢ 10) b [] nb (All-nil (λ b. b ≢ 10)));
+      fits = omega (arith, some, ap length l.appended, length-append into_before l.line, length-append l.line (b ∷ []));
+    };
+    reads = reads_on gives IsNothing (IsOpenLine room) before mid_ahead l.line old mid l.reads no_more after new (HandsOut r) (b ∷ []) same reads
         (λ bytes left h. subst (λ (x : Result (Option ℕ) Failed). HandsOut x bytes left) is h);
     ended = same ∙ l.ended;
   }
 
   pub line_ends : (after : ReadAhead) (fails : Bool) (new : S) (r : Result (Option ℕ) Failed) (U : List ℕ → List ℕ → Type 0) → ((bytes left : List ℕ) → HandsOut r bytes left → U (l.line ++ bytes) left)
-      → ReadsOf gives IsNothing (HandsOut r) mid_ahead after fails mid new → ReadsOf gives HasNoFeed U before after fails old new
-  line_ends after fails new r U f reads = reads_end gives IsNothing HasNoFeed before mid_ahead l.line old mid l.reads no_more after fails new (HandsOut r) U l.ended f reads
+      → ReadsOf gives IsNothing (HandsOut r) mid_ahead after fails mid new → ReadsOf gives (IsOpenLine room) U before after fails old new
+  line_ends after fails new r U f reads = reads_end gives IsNothing (IsOpenLine room) before mid_ahead l.line old mid l.reads no_more after fails new (HandsOut r) U l.ended f reads
 
   front_of : (bytes : List ℕ) → TakesFront (Some (l.line ++ bytes)) (Some bytes) into_before into_mid
-  front_of bytes = record { line = l.line; appended = l.appended; no_feed = l.no_feed; taken = refl }
+  front_of bytes = record { line = l.line; appended = l.appended; no_feed = l.part.no_feed; taken = refl }
 
   pub feed_ends : (after : ReadAhead) (new : S) (r : Result (Option ℕ) Failed) (b limit : ℕ) → r ≡ Ok (Some b) → b ≡ 10 → ReadsOf gives IsNothing (HandsOut r) mid_ahead after false mid new
-      → ReadsOf gives HasNoFeed (λ bytes left. AppendsLine (Some bytes) (Some left) into_before into_mid limit (Ok breaks.Feed)) before after false old new
+      → ReadsOf gives (IsOpenLine room) (λ bytes left. AppendsLine (Some bytes) (Some left) into_before into_mid limit (Ok breaks.Feed)) before after false old new
   feed_ends after new r b limit is e reads =
       line_ends after false new r (λ bytes left. AppendsLine (Some bytes) (Some left) into_before into_mid limit (Ok breaks.Feed))
       (λ bytes left h. at_feed (Some (l.line ++ bytes)) (Some bytes) (Some left) into_before into_mid limit (front_of bytes) b e (subst (λ (x : Result (Option ℕ) Failed). HandsOut x bytes left) is h)) reads
 
   pub limit_ends : (after : ReadAhead) (new : S) (r : Result (Option ℕ) Failed) (b limit : ℕ) → r ≡ Ok (Some b) → b ≢ 10 → length into_mid ≡ limit → ReadsOf gives IsNothing (HandsOut r) mid_ahead after false mid new
-      → ReadsOf gives HasNoFeed (λ bytes left. AppendsLine (Some bytes) (Some left) into_before into_mid limit (Err stops.TooLong)) before after false old new
+      → ReadsOf gives (IsOpenLine room) (λ bytes left. AppendsLine (Some bytes) (Some left) into_before into_mid limit (Err stops.TooLong)) before after false old new
   limit_ends after new r b limit is nb full reads =
       line_ends after false new r (λ bytes left. AppendsLine (Some bytes) (Some left) into_before into_mid limit (Err stops.TooLong))
       (λ bytes left h. at_limit (Some (l.line ++ bytes)) (Some bytes) (Some left) into_before into_mid limit (front_of bytes) b nb (subst (λ (x : Result (Option ℕ) Failed). HandsOut x bytes left) is h) full) reads
+
+  pub fault_ends : (after : ReadAhead) (new : S) (e : Failed) (limit : ℕ) → ReadsOf gives IsNothing (HandsOut (Err e)) mid_ahead after true mid new
+      → ReadsOf gives (IsOpenLine room) (λ bytes left. AppendsLine (Some bytes) (Some left) into_before into_mid limit (Err stops.Read)) before after true old new
+  fault_ends after new e limit reads =
+      line_ends after true new (Err e) (λ bytes left. AppendsLine (Some bytes) (Some left) into_before into_mid limit (Err stops.Read))
+      (λ bytes left kept. record { line = l.line; appended = l.appended; no_feed = l.part.no_feed; taken = ap (λ xs. l.line ++ xs) (sym kept) }) reads

@@ -191,16 +191,16 @@ module _ (old mid new : Option (List ℕ)) (done after : List ℕ) (front : IsTe
             ([], omega arith, subst (λ (xs : List ℕ). bytes ≡ (xs ++ []) ++ rest) (sym a.appended) (c ∙ ap (λ xs. xs ++ rest) (sym (append-nil (done ++ a.line))))),
           )
 
-  pub text_stop : (stop : ReadStop) → AppendsLine mid new done after room_for_text (Err stop) → length done ≤ longest_text → ReadsText old new after (Err stop)
-  text_stop stops.Read a few = at_fault old new (Consumes-then old mid new done a.line taken a.taken)
+  pub text_stop : (stop : ReadStop) → AppendsLine mid new done after room_for_text (Err stop) → length done ≤ longest_text → length after ≤ room_for_text → ReadsText old new after (Err stop)
+  text_stop stops.Read a few fits = at_fault old new (Consumes-then old mid new done a.line taken a.taken)
     where
       at_fault : (old new : Option (List ℕ)) → Consumes old new (done ++ a.line) → ReadsText old new after (Err stops.Read)
       at_fault None new c = tt
       at_fault (Some bytes) new c = (
         subst (Consumes (Some bytes) new) (sym a.appended) c,
-        record { lines = done; part = a.line; split = a.appended; whole = front.whole; no_mark = front.no_mark; no_feed = a.no_feed },
+        record { lines = done; part = a.line; split = a.appended; whole = front.whole; no_mark = front.no_mark; no_feed = a.no_feed; fits = fits },
       )
-  text_stop stops.TooLong a few = at_byte old new (Consumes-then old mid new done (a.line ++ a.taken.0 ∷ []) taken a.taken.2)
+  text_stop stops.TooLong a few fits = at_byte old new (Consumes-then old mid new done (a.line ++ a.taken.0 ∷ []) taken a.taken.2)
     where
       longer : List ℕ
       longer = a.line ++ a.taken.0 ∷ []

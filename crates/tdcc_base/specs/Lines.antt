@@ -10,6 +10,11 @@ use Rattle.tdcc_base.specs.declared.stops.ReadStop.TheVariants as stops
 abbrev pub HasNoFeed : List ℕ → Type 0
 HasNoFeed bytes = All (λ byte. byte ≢ 10) bytes
 
+-- bytes of one line, which may have so many: its line feed is not among them
+pub record IsOpenLine (room : ℕ) (bytes : List ℕ) : Type 0 where
+  pub no_feed : HasNoFeed bytes
+  pub fits : length bytes ≤ room
+
 -- the line and its line feed stand before the rest, or the line is not empty and the last
 abbrev pub BeginsWithLine : List ℕ → List ℕ → List ℕ → Type 0
 BeginsWithLine bytes line rest = HasNoFeed line × ((bytes ≡ line ++ 10 ∷ rest) ⊎ ((bytes ≡ line) × (line ≢ []) × (rest ≡ [])))

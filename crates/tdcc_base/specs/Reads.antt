@@ -3,12 +3,14 @@ use Rattle.std.specs.Prelude.{◌≡◌, ℕ, ◌<◌, Bool, true, false, List, 
 use Rattle.tdcc_base.specs.declared.outside.Failed.{Failed}
 use Rattle.tdcc_base.specs.declared.read_ahead.ReadAhead.{ReadAhead}
 use Rattle.tdcc_base.specs.declared.stops.LineEnd.{LineEnd}
+use Rattle.tdcc_base.specs.declared.stops.LineEnd.TheVariants as line_ends
 use Rattle.tdcc_base.specs.declared.stops.TextEnd.{TextEnd}
+use Rattle.tdcc_base.specs.declared.stops.TextEnd.TheVariants as text_ends
 use Rattle.tdcc_base.specs.declared.stops.ReadStop.{ReadStop}
 use Rattle.tdcc_base.specs.declared.stops.ReadStop.TheVariants as stops
 use Rattle.tdcc_base.specs.Limits.{read_size}
-use Rattle.tdcc_base.specs.Lines.{HasNoFeed, ReadsLine}
-use Rattle.tdcc_base.specs.Texts.{IsTextSoFar, ReadsText}
+use Rattle.tdcc_base.specs.Lines.{HasNoFeed, IsOpenLine, ReadsLine}
+use Rattle.tdcc_base.specs.Texts.{is_mark, IsTextSoFar, ReadsText}
 use Rattle.tdcc_base.specs.Unread.{pending, Gave}
 
 -- what one read may do: the source before it, the bytes that it was lent as they are after it, its answer, and the source after it
@@ -78,16 +80,28 @@ abbrev pub HandsOut : {E : Type 0} → Result (Option ℕ) E → List ℕ → Li
 HandsOut (Ok byte) bytes left = Gave byte (Some bytes) (Some left)
 HandsOut (Err e) bytes left = left ≡ bytes
 
--- The reads for a line: none where a line feed stands in what is there already. The line is the next of what was held
--- and what was read.
+-- the line that was read was taken with its line feed, unless the source has ended
+abbrev pub TakesFeed : Result LineEnd ReadStop → Bool → List ℕ → List ℕ → List ℕ → Type 0
+TakesFeed (Ok line_ends.Line) false line bytes left = bytes ≡ line ++ 10 ∷ left
+TakesFeed _ _ line bytes left = Unit {0}
+
+-- the text that was read was taken with the mark behind it and the mark's line feed, unless the source has ended
+abbrev pub TakesMark : Result TextEnd ReadStop → Bool → List ℕ → List ℕ → List ℕ → Type 0
+TakesMark (Ok text_ends.Mark) false text bytes left = (mark : List ℕ) × HasNoFeed mark × (is_mark mark ≡ true) × (bytes ≡ text ++ mark ++ 10 ∷ left)
+TakesMark _ _ text bytes left = Unit {0}
+
+-- The reads for a line: none where a line feed, or more than a line may have, stands in what is there already. The line
+-- is the next of what was held and what was read.
 abbrev pub ReadsForLine : {S : Type 0} → ReadRule S → ℕ → List ℕ → Result LineEnd ReadStop → ReadAhead → ReadAhead → S → S → Type 0
 ReadsForLine gives limit line result before after old new =
-    ReadsOf gives HasNoFeed (λ bytes left. ReadsLine limit (Some bytes) (Some left) line result)
+    ReadsOf gives (IsOpenLine limit)
+    (λ bytes left. ReadsLine limit (Some bytes) (Some left) line result × TakesFeed result after.ended line bytes left)
     before after (is_read_fault result) old new
 
--- The reads for a text: none where a mark with its line feed stands in what is there already. The text is that of what
--- was held and what was read.
+-- The reads for a text: none where a mark with its line feed, or more than a text may have, stands in what is there
+-- already. The text is that of what was held and what was read.
 abbrev pub ReadsForText : {S : Type 0} → ReadRule S → List ℕ → Result TextEnd ReadStop → ReadAhead → ReadAhead → S → S → Type 0
 ReadsForText gives text result before after old new =
-    ReadsOf gives IsTextSoFar (λ bytes left. ReadsText (Some bytes) (Some left) text result)
+    ReadsOf gives IsTextSoFar
+    (λ bytes left. ReadsText (Some bytes) (Some left) text result × TakesMark result after.ended text bytes left)
     before after (is_read_fault result) old new

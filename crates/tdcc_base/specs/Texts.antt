@@ -5,7 +5,7 @@ use Rattle.tdcc_base.specs.declared.stops.TextEnd.{TextEnd}
 use Rattle.tdcc_base.specs.declared.stops.TextEnd.TheVariants as ends
 use Rattle.tdcc_base.specs.declared.stops.ReadStop.{ReadStop}
 use Rattle.tdcc_base.specs.declared.stops.ReadStop.TheVariants as stops
-use Rattle.tdcc_base.specs.Limits.{longest_text}
+use Rattle.tdcc_base.specs.Limits.{longest_text, room_for_text}
 use Rattle.tdcc_base.specs.Lines.{HasNoFeed, first_line, after_line, lines_of, ConsumesOneMore}
 
 -- two percent signs, and it may be a carriage return
@@ -73,7 +73,7 @@ pub record IsTextRead (bytes : List ℕ) (new : Option (List ℕ)) (text : List 
   pub is_end : end ≡ end_of bytes
   pub short : length text ≤ longest_text
 
--- whole lines of which none is a mark, and a prefix of the line behind them
+-- whole lines of which none is a mark, and a prefix of the line behind them; no more than a text and a mark may have
 pub record IsTextSoFar (bytes : List ℕ) : Type 0 where
   pub lines : List ℕ
   pub part : List ℕ
@@ -81,6 +81,7 @@ pub record IsTextSoFar (bytes : List ℕ) : Type 0 where
   pub whole : AreWholeLines lines
   pub no_mark : HasNoMark lines
   pub no_feed : HasNoFeed part
+  pub fits : length bytes ≤ room_for_text
 
 -- A text was read, where the bytes are known. After a fault a prefix of the bytes was taken, and no more.
 abbrev pub ReadsText : Option (List ℕ) → Option (List ℕ) → List ℕ → Result TextEnd ReadStop → Type 0

@@ -1,12 +1,12 @@
 -- What `Lines` are over: a source, and what was read of it. This project's own.
-use Rattle.std.specs.Prelude.{◌≡◌, ℕ, false, List, [], Option, None, Result}
+use Rattle.std.specs.Prelude.{◌≡◌, ℕ, Bool, false, List, [], Option, None, Result}
 use Rattle.std.specs.Borrow.{GName}
 use Rattle.tdcc_base.specs.declared.stops.LineEnd.{LineEnd}
 use Rattle.tdcc_base.specs.declared.stops.TextEnd.{TextEnd}
 use Rattle.tdcc_base.specs.declared.stops.ReadStop.{ReadStop}
 use Rattle.tdcc_base.specs.declared.buffers.Buffers.{Buffers}
 use Rattle.tdcc_base.specs.declared.lines.Lines.{Lines}
-use Rattle.tdcc_base.specs.Reads.{ReadRule, ReadsForLine, ReadsForText}
+use Rattle.tdcc_base.specs.Reads.{ReadRule, ReadsOf, ReadsForLine, ReadsForText}
 use Rattle.tdcc_base.specs.Unread.{pending, unread, IsReady, IsOver, IsDrained, StaysEnded}
 
 -- nothing was read into the buffers yet
@@ -88,3 +88,9 @@ MakesLineReads gives old new result =
 abbrev pub MakesTextReads : {S : Type 0} → ReadRule S → Lines S Buffers → Lines S Buffers → Result TextEnd ReadStop → Type 0
 MakesTextReads gives old new result =
     ReadsForText gives (text_read new) result old.buffers.ahead new.buffers.ahead (source_of old) (source_of new)
+
+-- The reads of several calls together, of which the last says whether the source failed: each was made only where the
+-- bytes that were held before, and those of the reads before it, left this open.
+abbrev pub ReadsWhile : {S : Type 0} → ReadRule S → (List ℕ → Type 0) → Bool → Lines S Buffers → Lines S Buffers → Type 0
+ReadsWhile gives Open fails old new =
+    ReadsOf gives Open (λ bytes left. Unit {0}) old.buffers.ahead new.buffers.ahead fails (source_of old) (source_of new)

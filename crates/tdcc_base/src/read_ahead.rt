@@ -1,4 +1,4 @@
-ghost use Rattle.std.specs.Prelude.{◌≡◌, ◌<◌, ◌≤◌, true, false, is_err, IfOk, OnErr, IsErr, IsErrOf, IsSome, [], ◌∷◌, ◌++◌, length, vec_len, vec_capacity};
+ghost use Rattle.std.specs.Prelude.{◌≡◌, ◌-◌, ◌<◌, ◌≤◌, true, false, is_err, IfOk, OnErr, IsErr, IsErrOf, IsSome, [], ◌∷◌, ◌++◌, length, vec_len, vec_capacity};
 ghost use Rattle.std.specs.Bool.{MatchBool};
 ghost use Rattle.std.specs.Io.KnownBytes.{Keeps, IsAtEnd};
 ghost use Rattle.tdcc_base.specs.Causes.{HasCause, HasReadCause, Rose};
@@ -34,7 +34,7 @@ pub struct ReadAhead {
 
 impl ReadAhead {
     ghost use Rattle.tdcc_base.specs.Unread.{pending, unread, Gave, IsReady, IsOver, IsDrained, StaysEnded, AppendsLine};
-    ghost use Rattle.tdcc_base.specs.Lines.{HasNoFeed};
+    ghost use Rattle.tdcc_base.specs.Lines.{IsOpenLine};
     ghost use Rattle.tdcc_base.specs.Reads.{ReadsOf, IsNothing, HandsOut, is_read_fault};
 
     pub(crate) fn new(alloc: Global) -> Result<ReadAhead, Memory>
@@ -129,7 +129,7 @@ impl ReadAhead {
         ensures stays { StaysEnded self.old self.new source.old source.new }
         ensures over { IsOver self.old → (result ≡ Ok LineBreak.End) × (self.new ≡ self.old)
             × (into.new.items ≡ into.old.items) }
-        ensures reads { ReadsOf S.read_gives HasNoFeed
+        ensures reads { ReadsOf S.read_gives (IsOpenLine (limit - length into.old.items))
             (λ bytes left. AppendsLine (Some bytes) (Some left) into.old.items into.new.items limit result)
             self.old self.new (is_read_fault result) source.old source.new }
         ensures going { result ≡ Ok LineBreak.Feed → self.new.ended ≡ self.old.ended }

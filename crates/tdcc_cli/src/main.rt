@@ -40,7 +40,7 @@ fn answered<R: Threads + Sync, S: Source, K: Sink, E: Sink>(
     err: &mut E,
 ) -> ExitCode
     // The code is the number of a status with which the call keeps the whole contract of `tdcc`.
-    ensures { (s : StatusValue) × (exit_status result ≡ status_number s) × KeepsContract words.now s
+    ensures { (s : StatusValue) × (exit_status result ≡ status_number s) × KeepsContract S.read_gives source.old source.new words.now s
         (record { left = S.left source.old; faults = S.faults source.old; steady = S.steady source.old })
         (record { left = S.left source.new; faults = S.faults source.new; steady = S.steady source.new })
         (record { written = K.written out.old; faults = K.faults out.old; room = K.room out.old })

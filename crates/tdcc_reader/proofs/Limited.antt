@@ -86,11 +86,11 @@ back_up : (dialect : Dialect) (rest : List Event) (at d : ℕ) (f : Option Limit
 back_up dialect rest at d f = let e : (d + 1) - 1 ≡ d = omega arith in ap (λ x. over dialect at rest x 0 f) e
 
 -- a body that is a unit, behind what was found before
-body_limited : (dialect : Dialect) (u : UnitPhrase) → UnitLimited dialect u → (mark : Event) → ((rest : List Event) (at d n : ℕ) (f : Option Limit) → over dialect at (mark ∷ rest) d n f ≡ over dialect at rest (d - 1) n f)
+body_limited : (dialect : Dialect) (u : UnitPhrase) → UnitLimited dialect u → (end : Event) → ((rest : List Event) (at d n : ℕ) (f : Option Limit) → over dialect at (end ∷ rest) d n f ≡ over dialect at rest (d - 1) n f)
     → (rest : List Event) (at to d : ℕ) (g f : Option Limit) → at + unit_width u ≡ to
-    → over dialect at (unit_events u (mark ∷ rest)) (d + 1) 0 (first f g) ≡ over dialect to rest d 0 (first f (first g (unit_limit dialect u (d + 1) at)))
-body_limited dialect u ih mark up rest at to d g f et =
-    ih (mark ∷ rest) at (d + 1) (first f g)
+    → over dialect at (unit_events u (end ∷ rest)) (d + 1) 0 (first f g) ≡ over dialect to rest d 0 (first f (first g (unit_limit dialect u (d + 1) at)))
+body_limited dialect u ih end up rest at to d g f et =
+    ih (end ∷ rest) at (d + 1) (first f g)
     ∙ up rest (at + unit_width u) (d + 1) 0 (first (first f g) (unit_limit dialect u (d + 1) at))
     ∙ back_up dialect rest (at + unit_width u) d (first (first f g) (unit_limit dialect u (d + 1) at))
     ∙ same dialect rest d 0 et (first_assoc f g (unit_limit dialect u (d + 1) at))

@@ -4,10 +4,7 @@ ghost use Rattle.token_system.specs.Domain.{is_cell};
 ghost use Rattle.token_system.specs.declared.cell.Kind.TheVariants as Kind;
 ghost use Rattle.tdcc_reader.specs.Surfaces.{declared_as, declared_number, declared_signal};
 
-use token_system::{Cell, Kind};
-
-/// The greatest number in a domain; the least one is its negation.
-const MAX_BOUND: i64 = 999_999_999;
+use token_system::{Cell, GREATEST_BOUND, Kind};
 
 /// The cell of a signal.
 pub(crate) fn signal_cell() -> Cell
@@ -24,7 +21,11 @@ pub(crate) fn signal_cell() -> Cell
 fn is_domain(lo: i64, hi: i64) -> bool
     ensures { result ≡ is_cell Kind.Number lo hi }
 {
-    -MAX_BOUND <= lo && lo <= MAX_BOUND && -MAX_BOUND <= hi && hi <= MAX_BOUND && lo <= hi
+    -GREATEST_BOUND <= lo
+        && lo <= GREATEST_BOUND
+        && -GREATEST_BOUND <= hi
+        && hi <= GREATEST_BOUND
+        && lo <= hi
 }
 
 /// The cell of a number with this domain.

@@ -2,6 +2,8 @@
 ghost use Rattle.std.specs.Prelude.{◌≡◌};
 ghost use Rattle.tdcc_reader.specs.declared.fault.ReadFault.TheVariants.{Memory};
 
+use agent_core::{MAX_CELLS, MAX_DECLARED, MAX_NODES};
+use program_lexemes::LONGEST_PROGRAM_TEXT;
 use std::alloc::AllocError;
 use std::fmt;
 use thiserror::Error;
@@ -40,9 +42,9 @@ pub enum ReadFault {
     WrongKind { lexeme: u32 },
     /// More than [`agent_core::MAX_DECLARED`] cells are declared.
     TooManyDeclared,
-    /// The program has more than 4,096 nodes.
+    /// The program has more than [`agent_core::MAX_NODES`] nodes.
     TooManyNodes,
-    /// The program has more than 1,024 cells.
+    /// The program has more than [`agent_core::MAX_CELLS`] cells.
     TooManyCells,
     /// An allocation failed.
     Memory,
@@ -64,7 +66,7 @@ impl fmt::Display for ReadFault {
 
     fn fmt<W: fmt::Write>(&self, f: &mut fmt::Formatter<W>) -> fmt::Result {
         match *self {
-            ReadFault::TextTooLong => f.write_str("text over 65536 bytes"),
+            ReadFault::TextTooLong => write!(f, "text over {LONGEST_PROGRAM_TEXT} bytes"),
             ReadFault::Lex { offset } => write!(f, "bad byte at offset {offset}"),
             ReadFault::LongName { lexeme } => write!(f, "long name at lexeme {lexeme}"),
             ReadFault::LongNumber { lexeme } => write!(f, "long number at lexeme {lexeme}"),
@@ -76,9 +78,9 @@ impl fmt::Display for ReadFault {
             ReadFault::EmptyDomain { lexeme } => write!(f, "empty domain at lexeme {lexeme}"),
             ReadFault::UnknownName { lexeme } => write!(f, "unknown name at lexeme {lexeme}"),
             ReadFault::WrongKind { lexeme } => write!(f, "wrong kind at lexeme {lexeme}"),
-            ReadFault::TooManyDeclared => f.write_str("over 256 declared cells"),
-            ReadFault::TooManyNodes => f.write_str("over 4096 nodes"),
-            ReadFault::TooManyCells => f.write_str("over 1024 cells"),
+            ReadFault::TooManyDeclared => write!(f, "over {MAX_DECLARED} declared cells"),
+            ReadFault::TooManyNodes => write!(f, "over {MAX_NODES} nodes"),
+            ReadFault::TooManyCells => write!(f, "over {MAX_CELLS} cells"),
             ReadFault::Memory => f.write_str("out of memory"),
         }
     }

@@ -61,7 +61,7 @@ built_no_fault text p f a (many_cells s reads (d, is, few_nodes, many)) =
     let cells = cells_many a.surface e p (surface_formed a.surface (text, a.reads)) made in
     let few = a.core.few_cells in
     let declared = ap (λ (x : SurfaceProgram). x.declared) surface in
-    let marks_same = ap (λ (x : SymbolicAgent). length (binders x)) same in omega arith
+    let binders_same = ap (λ (x : SymbolicAgent). length (binders x)) same in omega arith
 
 -- not both limits are gone past first
 not_both : (text : List ℕ) (s t : SurfaceProgram) → ReadsAs Program text s → ReadsAs Program text t → expansion.RefusesExpansion s sizes.TooManyNodes → expansion.RefusesExpansion t sizes.TooManyCells → ⊥

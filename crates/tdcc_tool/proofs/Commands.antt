@@ -1,13 +1,16 @@
 -- What the words of a command say of its task.
 use Rattle.std.proofs.Common.{◌≡◌, ℕ, List, Some, None, refl, sym, arith, subst}
-use Rattle.std.specs.Prelude.{Option, IfSome, IfOk, Result, Ok, Err, String}
+use Rattle.std.specs.Prelude.{Option, IfSome, IfOk, Result, Ok, Err, String, map, string_bytes}
 use Rattle.std.specs.declared.alloc.Global.{Global}
 use Rattle.command_words.specs.declared.command.Command.{Command}
 use Rattle.command_words.specs.declared.command.Command.TheVariants.{Run, Report, Check, Core, Generate}
+use Rattle.command_words.proofs.CommandWords.{one_command}
 use Rattle.command_words.proofs.NetRange.{net_range}
+use Rattle.tdcc_base.specs.Reads.{ReadRule}
 use Rattle.tdcc_tool.specs.declared.answer.Answer.{Answer}
 use Rattle.tdcc_tool.specs.declared.task.Task.{Task}
 use Rattle.tdcc_tool.specs.Answers.{AnswersBy, AnswersTo, WordsCall}
+use Rattle.tdcc_tool.specs.Reading.{LeavesOpen, ReadsAsNeeded}
 use Rattle.tdcc_tool.specs.Tasks.{HasNetLimit, IsGenerated, RunsProgram, ReadsTrace, input_of, task_of}
 
 -- an instant may have as many leaves as a net may
@@ -52,3 +55,10 @@ answered_by command task (Some bytes) (Ok a) same not h =
 pub ended_by : {E : Type 0} (command : Command) (task : Task) (Q : Answer → Type 0) (r : Result Answer E) → task ≡ task_of command → IfOk r (λ a. RunsProgram task → Q a) → IfOk r (λ a. ReadsTrace command → Q a)
 ended_by command task Q (Err e) same h = tt
 ended_by command task Q (Ok a) same h = λ reads. h (subst RunsProgram (sym same) (runs_trace command reads))
+
+-- what the reads of a command were made for, they were made for the command of the words
+pub reads_called : {S : Type 0} (gives : ReadRule S) (words : List (String Global)) (a b : Command) (old new : S) → WordsCall a words → WordsCall b words → (IsGenerated b → ⊥)
+    → ((IsGenerated a → ⊥) → ReadsAsNeeded gives (LeavesOpen (task_of a)) old new) → ReadsAsNeeded gives (LeavesOpen (task_of b)) old new
+reads_called gives words a b old new is_a is_b not reads =
+    let same : a ≡ b = one_command (map string_bytes words) a b is_a is_b in
+    subst (λ (k : Command). ReadsAsNeeded gives (LeavesOpen (task_of k)) old new) same (reads (λ g. not (subst IsGenerated same g)))

@@ -12,6 +12,7 @@ pub mod RunSteps
 pub mod SomeRuns
 pub mod SameWorkers
 pub mod TextAnswers
+pub mod Readings
 pub mod Texts
 pub mod OneAnswer
 pub mod WholeRuns

@@ -7,6 +7,7 @@ pub mod RunEnds
 pub mod Checks
 pub mod Tasks
 pub mod Answers
+pub mod Reading
 pub mod KnownInputs
 pub mod Cuts
 pub mod Completeness

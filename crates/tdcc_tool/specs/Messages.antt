@@ -1,11 +1,12 @@
 -- The one line on err that goes with each status but Ok. The texts are this project's own.
 use Rattle.std.specs.Prelude.{ℕ, List, [], ◌∷◌, ◌++◌, codes, decimal, slice_get, Option, Some, None}
 use Rattle.agent_core.specs.declared.node.CellDecl.{CellDecl}
+use Rattle.agent_core.specs.Limits.{most_instants}
 use Rattle.agent_core.specs.Programs.{CoreProgram}
 use Rattle.tdcc_reader.specs.declared.fault.ReadFault.{ReadFault}
 use Rattle.tdcc_reader.specs.Messages.{fault_message}
 use Rattle.trace_text.specs.declared.fault.LineFault.{LineFault}
-use Rattle.trace_text.specs.declared.fault.LineFault.TheVariants.{BadToken, UnknownName, WrongKind, LineTooLong, Memory}
+use Rattle.trace_text.specs.Messages.{line_fault_message}
 
 -- the program's name before the text, and a line feed after it
 abbrev pub message : List ℕ → List ℕ
@@ -29,25 +30,17 @@ abbrev pub strata_line : CoreProgram → ℕ → ℕ → ℕ → List ℕ
 strata_line p guard told node =
     message (codes "program: not stratified, " ++ cell_name (slice_get p.cells guard) ++ codes " guards " ++ cell_name (slice_get p.cells told) ++ codes " at node " ++ decimal node)
 
--- what is said of the fault of a line; of out of memory nothing is said
-abbrev pub fault_text : LineFault → List ℕ
-fault_text (BadToken offset) = codes "bad token at offset " ++ decimal offset
-fault_text (UnknownName offset) = codes "unknown name at offset " ++ decimal offset
-fault_text (WrongKind offset) = codes "wrong kind at offset " ++ decimal offset
-fault_text LineTooLong = codes "line over 32768 bytes"
-fault_text Memory = []
-
 -- what is said of the line of instant n
 abbrev pub instant_line : ℕ → List ℕ → List ℕ
 instant_line n text = message (codes "trace: instant " ++ decimal n ++ codes ": " ++ text)
 
 -- the line of instant n has the fault
 abbrev pub trace_line : ℕ → LineFault → List ℕ
-trace_line n fault = instant_line n (fault_text fault)
+trace_line n fault = instant_line n (line_fault_message fault)
 
 -- there is a line for an instant more than there may be
 abbrev pub many_line : ℕ → List ℕ
-many_line n = instant_line n (codes "over 65536 instants")
+many_line n = instant_line n (codes "over " ++ decimal most_instants ++ codes " instants")
 
 -- instant n has this many leaves, which are more than it may have
 abbrev pub net_line : ℕ → ℕ → List ℕ

@@ -53,7 +53,7 @@ abbrev pub IsNotOutOfMemory : RunEnd → Type 0
 IsNotOutOfMemory (ends.BadLine fault) = fault ≢ Memory
 IsNotOutOfMemory _ = Unit {0}
 
--- the run ends so at a line of at most 32,768 bytes, whatever outputs it has had, and its state stays as it was
+-- the run ends so at a line within the limit of bytes, whatever outputs it has had, and its state stays as it was
 pub record StopsRun (before after : RunState) (line : List ℕ) (end : RunEnd) : Type 0 where
   pub at : length line ≤ longest_line → (full : List StoreMap) → IsStateOf before full → EndsAt before.book.program before.limits full line end
   pub same : after ≡ before

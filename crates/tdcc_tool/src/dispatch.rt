@@ -1,10 +1,11 @@
 //! What a command answers to a program text, and the trace behind it.
-ghost use Rattle.std.specs.Prelude.{◌≡◌, ◌≤◌, ℕ, List, [], IfOk, IfSome, OnSome, IsErrOf, IsTrue, Some};
+ghost use Rattle.std.specs.Prelude.{◌≡◌, ◌≢◌, ◌≤◌, ℕ, List, [], Err, IfOk, IfSome, OnSome, IsErrOf, IsTrue, Some};
 ghost use Rattle.tdcc_base.specs.Causes.{Rose};
 ghost use Rattle.tdcc_base.specs.Limits.{longest_line};
 ghost use Rattle.tdcc_base.specs.Promises.{StaysSteady};
-ghost use Rattle.tdcc_base.specs.Waiting.{waiting, source_of, limit_of, IsFirst, reference_of};
+ghost use Rattle.tdcc_base.specs.Waiting.{waiting, source_of, limit_of, IsFirst, ReadsWhile, reference_of};
 ghost use Rattle.tdcc_tool.specs.Answers.{AnswersBy, AnswersTo};
+ghost use Rattle.tdcc_tool.specs.Reading.{LeavesOpen, ReadsAsNeeded, is_read_stop};
 ghost use Rattle.tdcc_tool.specs.Statuses.{IsCommandEnd};
 ghost use Rattle.tdcc_tool.specs.Tasks.{HasNetLimit, IsGenerated, RunsProgram, ReadsTrace, task_of as the_task};
 
@@ -34,6 +35,8 @@ fn answer_lines<S: Source>(
     ensures ended { IfOk result (λ a. RunsProgram task → a.status ≡ Status.Ok
         → OnSome (waiting S.left lines.old) (S.left (source_of lines.new) ≡ Some [])) }
     ensures command_end { IfOk result (λ a. IsCommandEnd a.status) }
+    ensures reads { result ≢ Err Stop.Memory → ReadsWhile S.read_gives
+        (LeavesOpen task) (is_read_stop result) lines.old lines.new }
     ensures faults_only_rise { S.faults (source_of lines.old) ≤ S.faults (source_of lines.new) }
     ensures read { IsErrOf result Stop.Read → Rose (S.faults (source_of lines.old)) (S.faults (source_of lines.new)) }
     ensures steady { StaysSteady (S.steady (source_of lines.old)) (S.steady (source_of lines.new)) (IsErrOf result Stop.Read) }
@@ -63,6 +66,7 @@ pub fn answer<S: Source>(alloc: Global, task: Task, source: &mut S) -> Result<An
     ensures ended { IfOk result (λ a. RunsProgram task → a.status ≡ Status.Ok
         → OnSome (S.left source.old) (S.left source.new ≡ Some [])) }
     ensures command_end { IfOk result (λ a. IsCommandEnd a.status) }
+    ensures reads { result ≢ Err Stop.Memory → ReadsAsNeeded S.read_gives (LeavesOpen task) source.old source.new }
     ensures read { IsErrOf result Stop.Read → Rose (S.faults source.old) (S.faults source.new) }
     ensures steady { IsTrue (S.steady source.old) → IsErrOf result Stop.Read → ⊥ }
 {
@@ -88,6 +92,8 @@ pub fn answer_command<S: Source>(
         (λ a. AnswersBy command bytes a.status a.out.items a.err.items) }
     ensures unread { IsGenerated command → IsErrOf result Stop.Read → ⊥ }
     ensures command_end { IfOk result (λ a. IsCommandEnd a.status) }
+    ensures reads { ¬ IsGenerated command → result ≢ Err Stop.Memory
+        → ReadsAsNeeded S.read_gives (LeavesOpen (the_task command)) source.old source.new }
     ensures read { IsErrOf result Stop.Read → Rose (S.faults source.old) (S.faults source.new) }
     ensures steady { IsTrue (S.steady source.old) → IsErrOf result Stop.Read → ⊥ }
 {

@@ -1,17 +1,15 @@
 //! The lines for err.
-ghost use Rattle.std.specs.Prelude.{◌≡◌, ◌≢◌, IfOk, slice_get, string_bytes};
+ghost use Rattle.std.specs.Prelude.{◌≡◌, ◌≢◌, IfOk, slice_get};
 ghost use Rattle.tdcc_reader.specs.declared.fault.ReadFault.TheVariants.{Memory as NoReading};
-ghost use Rattle.trace_text.specs.declared.fault.LineFault.TheVariants.{Memory as NoLine};
 ghost use Rattle.tdcc_tool.specs.Messages as messages;
 ghost use Rattle.tdcc_tool.specs.RunEnds as ends;
 ghost use Rattle.tdcc_tool.specs.Steps.{IsNotOutOfMemory};
 
 use crate::run_end::RunEnd;
-use agent_core::Program;
+use agent_core::{MAX_INSTANTS, Program};
 use std::alloc::Global;
 use tdcc_reader::ReadFault;
 use token_system::Memory;
-use trace_text::LineFault;
 
 /// The line of a program text that has this fault.
 pub fn program_line(alloc: Global, fault: ReadFault) -> Result<Vec<u8>, Memory>
@@ -51,21 +49,6 @@ pub fn strata_line(
     Ok(line)
 }
 
-/// What is said of the fault of a line.
-fn fault_text(alloc: Global, fault: LineFault) -> Result<String, Memory>
-    requires { fault ≢ NoLine }
-    ensures { IfOk result (λ text. string_bytes text ≡ messages.fault_text fault) }
-{
-    let text = match fault {
-        LineFault::BadToken { offset } => format!(in alloc; "bad token at offset {offset}")?,
-        LineFault::UnknownName { offset } => format!(in alloc; "unknown name at offset {offset}")?,
-        LineFault::WrongKind { offset } => format!(in alloc; "wrong kind at offset {offset}")?,
-        LineFault::LineTooLong => format!(in alloc; "line over 32768 bytes")?,
-        LineFault::Memory => unreachable!(),
-    };
-    Ok(text)
-}
-
 /// The line for err where the line of this instant stops the run, for this reason.
 fn instant_line(alloc: Global, instant: u32, reason: &str) -> Result<Vec<u8>, Memory>
     ensures { IfOk result (λ line. line.items ≡ messages.instant_line instant reason.now) }
@@ -81,12 +64,14 @@ pub fn end_line(alloc: Global, instant: u32, end: RunEnd) -> Result<Vec<u8>, Mem
 {
     match end {
         RunEnd::Completed => Ok(Vec::new(alloc)),
-        RunEnd::BadLine { fault } => instant_line(
-            alloc,
-            instant,
-            fault_text(alloc, fault)?.as_str(),
-        ),
-        RunEnd::TooManyLines => instant_line(alloc, instant, "over 65536 instants"),
+        RunEnd::BadLine { fault } => {
+            let reason = fault.to_string(alloc)?;
+            instant_line(alloc, instant, reason.as_str())
+        }
+        RunEnd::TooManyLines => {
+            let reason = format!(in alloc; "over {MAX_INSTANTS} instants")?;
+            instant_line(alloc, instant, reason.as_str())
+        }
         RunEnd::NetFull { leaves } => {
             let line = format!(in alloc; "tdcc: net: instant {instant}: {leaves} leaves\n")?;
             Ok(line.as_bytes().to_vec(alloc)?)

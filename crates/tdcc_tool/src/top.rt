@@ -1,4 +1,4 @@
-ghost use Rattle.std.specs.Prelude.{◌≡◌, ◌↔◌, ℕ, List, [], IfSome, OnSome, IsTrue, Some};
+ghost use Rattle.std.specs.Prelude.{◌≡◌, ◌≢◌, ◌↔◌, ℕ, List, [], IfSome, OnSome, IsTrue, Some};
 ghost use Rattle.std.specs.Io.KnownBytes.{Appends, Consumes};
 ghost use Rattle.tdcc_base.specs.Causes.{Rose};
 ghost use Rattle.tdcc_base.specs.Written.{WritesUntilFault};
@@ -8,7 +8,8 @@ ghost use Rattle.tdcc_tool.specs.Completeness.{IsRunnable, EndsWhole, FitsInto};
 ghost use Rattle.tdcc_tool.specs.Cuts.{LeavesAfterFault, fixed_line};
 ghost use Rattle.tdcc_tool.specs.Statuses.{IsComplete, IsToolStatus};
 ghost use Rattle.tdcc_tool.specs.KnownInputs.{MayHave};
-ghost use Rattle.tdcc_tool.specs.Tasks.{IsGenerated, ReadsTrace};
+ghost use Rattle.tdcc_tool.specs.Reading.{LeavesOpen, ReadsAsNeeded};
+ghost use Rattle.tdcc_tool.specs.Tasks.{IsGenerated, ReadsTrace, task_of};
 
 use crate::answer::Stop;
 use crate::dispatch::answer_command;
@@ -27,9 +28,10 @@ fn tell<E: Sink>(err: &mut E, line: &[u8])
 /// Does all that the program does: reads its words and its source, writes its answer to `out` and
 /// the line of a status other than `Ok` to `err`, and answers the status.
 ///
-/// The words are the arguments behind the program's name. Of the source, `run` and `report` read all, `check` and `core`
-/// the program text and what a read gives with it, before anything is written to `out`; `gen` reads nothing. No thread is
-/// started and the gate is not passed yet. A fault of `err` changes no status.
+/// The words are the arguments behind the program's name. Of the source, `run` and `report` read up to the line that ends
+/// the run, `check` and `core` up to the mark behind the program text, each with what the last read gave beyond it, before
+/// anything is written to `out`; `gen` reads nothing. No thread is started and the gate is not passed yet. A fault of `err`
+/// changes no status.
 pub fn tdcc<R: Threads + Sync, S: Source, K: Sink, E: Sink, G: Gate>(
     rt: &R,
     alloc: Global,
@@ -74,6 +76,8 @@ pub fn tdcc<R: Threads + Sync, S: Source, K: Sink, E: Sink, G: Gate>(
     ensures usage_out { result ≡ Status.Usage → out.new ≡ out.old }
 
     // What was read, and which statuses there are.
+    ensures reads { (command : Command) → WordsCall command words.now → ¬ IsGenerated command → result ≢ Status.Memory
+        → ReadsAsNeeded S.read_gives (LeavesOpen (task_of command)) source.old source.new }
     ensures ended { (command : Command) → WordsCall command words.now → ReadsTrace command → result ≡ Status.Ok
         → OnSome (S.left source.old) (S.left source.new ≡ Some []) }
     ensures generated { (command : Command) → WordsCall command words.now → IsGenerated command

@@ -1,12 +1,13 @@
 //! A run: the lines of a trace, one after another.
-ghost use Rattle.std.specs.Prelude.{◌≡◌, ◌≤◌, [], IfOk, IfSome, MatchOption, OnSome, IsNone, IsErrOf, Some};
+ghost use Rattle.std.specs.Prelude.{◌≡◌, ◌≢◌, ◌≤◌, [], Err, IfOk, IfSome, MatchOption, OnSome, IsNone, IsErrOf, Some};
 ghost use Rattle.tdcc_base.specs.Causes.{Rose};
 ghost use Rattle.tdcc_base.specs.Promises.{StaysSteady};
 ghost use Rattle.tdcc_base.specs.Limits.{longest_line};
 ghost use Rattle.tdcc_base.specs.Lines.{lines_of};
-ghost use Rattle.tdcc_base.specs.Waiting.{waiting, source_of, stop_of, limit_of, LinesReady, reference_of};
+ghost use Rattle.tdcc_base.specs.Waiting.{waiting, source_of, stop_of, limit_of, LinesReady, ReadsNoMoreAfterEnd, ReadsWhile, reference_of};
 ghost use Rattle.agent_core.specs.Strata.{Stratifies};
 ghost use Rattle.tdcc_tool.specs.Answers.{ProgramAnswer, RunAnswer};
+ghost use Rattle.tdcc_tool.specs.Reading.{IsOpenTrace, IsOpenTraceOf, is_read_stop};
 ghost use Rattle.tdcc_tool.specs.Statuses.{IsCommandEnd};
 ghost use Rattle.tdcc_tool.specs.Steps.{StopsRun, IsStateOf, AdvancesRun};
 ghost use Rattle.command_words.specs.Limits.{greatest_net};
@@ -53,6 +54,9 @@ fn run_trace<S: Source>(
         RunAnswer start.book.program start.mode start.limits (lines_of trace) a.status a.out.items a.err.items)) }
     ensures ended { IfOk result (λ a. a.status ≡ Status.Ok → OnSome (waiting S.left lines.old) (S.left (source_of lines.new) ≡ Some [])) }
     ensures command_end { IfOk result (λ a. IsCommandEnd a.status) }
+    ensures no_more { ReadsNoMoreAfterEnd lines.old lines.new }
+    ensures reads { result ≢ Err Stop.Memory → ReadsWhile S.read_gives
+        (IsOpenTrace start.book.program start.limits) (is_read_stop result) lines.old lines.new }
     ensures faults_only_rise { S.faults (source_of lines.old) ≤ S.faults (source_of lines.new) }
     ensures read { IsErrOf result Stop.Read → Rose (S.faults (source_of lines.old)) (S.faults (source_of lines.new)) }
     ensures steady { StaysSteady (S.steady (source_of lines.old)) (S.steady (source_of lines.new)) (IsErrOf result Stop.Read) }
@@ -94,6 +98,9 @@ pub fn run_program<S: Source>(
         ProgramAnswer program mode limits (lines_of trace) a.status a.out.items a.err.items)) }
     ensures ended { IfOk result (λ a. a.status ≡ Status.Ok → OnSome (waiting S.left lines.old) (S.left (source_of lines.new) ≡ Some [])) }
     ensures command_end { IfOk result (λ a. IsCommandEnd a.status) }
+    ensures no_more { ReadsNoMoreAfterEnd lines.old lines.new }
+    ensures reads { result ≢ Err Stop.Memory → ReadsWhile S.read_gives
+        (IsOpenTraceOf program limits) (is_read_stop result) lines.old lines.new }
     ensures faults_only_rise { S.faults (source_of lines.old) ≤ S.faults (source_of lines.new) }
     ensures read { IsErrOf result Stop.Read → Rose (S.faults (source_of lines.old)) (S.faults (source_of lines.new)) }
     ensures steady { StaysSteady (S.steady (source_of lines.old)) (S.steady (source_of lines.new)) (IsErrOf result Stop.Read) }

@@ -1,5 +1,5 @@
 -- The bounds of a cell's domain are numbers of 64 bits.
-use Rattle.std.proofs.Common.{◌≡◌, ℤ, pos, negsuc, ◌&&◌, arith}
+use Rattle.std.proofs.Common.{◌≡◌, ℤ, pos, neg_ℤ, ◌&&◌, arith}
 use Rattle.std.specs.Prelude.{◌≤ℤ◌, IsTrue, int_le}
 use Rattle.std.specs.Ordering.{int_eq}
 use Rattle.std.proofs.lemmas.Bool.Decides.{Decides-int_eq}
@@ -9,13 +9,14 @@ use mir.Val.{to_z, of_z}
 use Rattle.token_system.specs.declared.cell.Kind.{Kind}
 use Rattle.token_system.specs.declared.cell.Kind.TheVariants as kinds
 use Rattle.token_system.specs.declared.cell.Cell.{Cell}
+use Rattle.token_system.specs.Limits.{greatest_bound}
 use Rattle.token_system.specs.Domain.{is_bound, is_cell}
 use Rattle.agent_core.proofs.Bools.{first_of_both, second_of_both}
 
 bound_width : (k : ℤ) → IsTrue (is_bound k) → to_z w64 (of_z w64 k) ≡ k
 bound_width k h =
-    let low : negsuc 999999998 ≤ℤ k = grind (arith, ints) in
-    let high : k ≤ℤ pos 999999999 = grind (arith, ints) in
+    let low : neg_ℤ greatest_bound ≤ℤ k = grind (arith, ints) in
+    let high : k ≤ℤ greatest_bound = grind (arith, ints) in
     omega (arith, ints)
 
 zero_width : (k : ℤ) → k ≡ pos 0 → to_z w64 (of_z w64 k) ≡ k

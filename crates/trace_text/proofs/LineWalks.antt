@@ -15,7 +15,7 @@ use Rattle.trace_text.specs.declared.fault.LineFault.{LineFault}
 use Rattle.trace_text.specs.Fields.{Field, is_blank, is_some, placed_fields, fields}
 use Rattle.trace_text.specs.Inputs.{DenoteAll}
 use Rattle.trace_text.specs.Refusals.{RefusesField, RefusesFields}
-use Rattle.trace_text.specs.Tellings.{TellsPiece, TellsPieces}
+use Rattle.trace_text.specs.Tellings.{TellsField, TellsFields}
 use Rattle.trace_text.proofs.Sayings.{say_all_fit, say_all-append, say_one, tell_all-append}
 use Rattle.trace_text.proofs.Refused.{first_refused}
 
@@ -25,8 +25,8 @@ span [] = 0
 span (part ∷ parts) = length part + 1 + span parts
 
 -- the fields among parts of which the first stands at this place
-abbrev pub pieces_from : ℕ → List (List ℕ) → List Field
-pieces_from offset parts = filter (λ (piece : Field). is_some piece.bytes) (placed_fields offset parts)
+abbrev pub fields_from : ℕ → List (List ℕ) → List Field
+fields_from offset parts = filter (λ (field : Field). is_some field.bytes) (placed_fields offset parts)
 
 span-onto : (b : ℕ) (parts : List (List ℕ)) (n : ℕ) → span parts ≡ n + 1 → span (onto_first b parts) ≡ suc n + 1
 span-onto b [] n e = absurd (omega arith)
@@ -43,7 +43,7 @@ span-split (b ∷ line) = go (is_blank b) (span-split line)
 -- these parts of the line are left, of which the first stands at this place, and the fields before them were told to the store
 pub record ReadSoFar (p : CoreProgram) (line : List ℕ) (rest : List (List ℕ)) (offset : ℕ) (s : StoreMap) : Type 0 where
   pub before : List Field
-  pub whole : fields line ≡ before ++ pieces_from offset rest
+  pub whole : fields line ≡ before ++ fields_from offset rest
   pub tokens : Constraint
   pub said : DenoteAll p before tokens
   pub told : s ≡ tell_all p [] tokens empty
@@ -57,7 +57,7 @@ module _ (p : CoreProgram) (line : List ℕ) where
   read-store rest offset s r =
       subst (IsStore p) (sym r.told) (tell_all-least p [] r.tokens empty (empty-IsStore p) (say_all_fit p r.before r.tokens r.said)).store
 
-  pub read-end : (offset : ℕ) (old s : StoreMap) → old ≡ empty → ReadSoFar p line [] offset s → TellsPieces p (fields line) old s
+  pub read-end : (offset : ℕ) (old s : StoreMap) → old ≡ empty → ReadSoFar p line [] offset s → TellsFields p (fields line) old s
   read-end offset old s e r = record {
     tokens = r.tokens;
     said = subst (λ (all : List Field). DenoteAll p all r.tokens) (sym (r.whole ∙ append-nil r.before)) r.said;
@@ -72,11 +72,11 @@ module _ (p : CoreProgram) (line : List ℕ) where
     pub read-within : offset + (length part + 1) ≤ length line + 1
     read-within = let h = left_over in omega arith
 
-    -- an empty part is no piece
+    -- an empty part is no field
     pub read-skip : is_some part ≡ false → ReadSoFar p line rest (offset + (length part + 1)) s
     read-skip none = record {
       before = r.before;
-      whole = r.whole ∙ ap (λ b. r.before ++ cond b (record { offset = offset; bytes = part } ∷ pieces_from (offset + (length part + 1)) rest) (pieces_from (offset + (length part + 1)) rest)) none;
+      whole = r.whole ∙ ap (λ b. r.before ++ cond b (record { offset = offset; bytes = part } ∷ fields_from (offset + (length part + 1)) rest) (fields_from (offset + (length part + 1)) rest)) none;
       tokens = r.tokens;
       said = r.said;
       told = r.told;
@@ -84,14 +84,14 @@ module _ (p : CoreProgram) (line : List ℕ) where
     }
 
     module _ (some : is_some part ≡ true) where
-      here : fields line ≡ r.before ++ record { offset = offset; bytes = part } ∷ pieces_from (offset + (length part + 1)) rest
-      here = r.whole ∙ ap (λ b. r.before ++ cond b (record { offset = offset; bytes = part } ∷ pieces_from (offset + (length part + 1)) rest) (pieces_from (offset + (length part + 1)) rest)) some
+      here : fields line ≡ r.before ++ record { offset = offset; bytes = part } ∷ fields_from (offset + (length part + 1)) rest
+      here = r.whole ∙ ap (λ b. r.before ++ cond b (record { offset = offset; bytes = part } ∷ fields_from (offset + (length part + 1)) rest) (fields_from (offset + (length part + 1)) rest)) some
 
-      -- a piece is told
-      pub read-tell : (next : StoreMap) → TellsPiece p part s next → ReadSoFar p line rest (offset + (length part + 1)) next
+      -- a field is told
+      pub read-tell : (next : StoreMap) → TellsField p part s next → ReadSoFar p line rest (offset + (length part + 1)) next
       read-tell next t = record {
         before = r.before ++ record { offset = offset; bytes = part } ∷ [];
-        whole = here ∙ sym (append_assoc r.before (record { offset = offset; bytes = part } ∷ []) (pieces_from (offset + (length part + 1)) rest));
+        whole = here ∙ sym (append_assoc r.before (record { offset = offset; bytes = part } ∷ []) (fields_from (offset + (length part + 1)) rest));
         tokens = r.tokens ++ t.tokens;
         said = say_all-append p r.before (record { offset = offset; bytes = part } ∷ []) r.tokens t.tokens r.said (say_one p (record { offset = offset; bytes = part }) t.tokens t.said);
         told = t.told ∙ ap (tell_all p [] t.tokens) r.told ∙ sym (tell_all-append p [] r.tokens t.tokens empty);
@@ -100,7 +100,7 @@ module _ (p : CoreProgram) (line : List ℕ) where
 
       -- or refused
       pub read-refused : (f : LineFault) → RefusesField p (record { offset = offset; bytes = part }) f → RefusesFields p (fields line) f
-      read-refused f h = first_refused p (fields line) r.before (record { offset = offset; bytes = part }) (pieces_from (offset + (length part + 1)) rest) r.tokens f here r.said h
+      read-refused f h = first_refused p (fields line) r.before (record { offset = offset; bytes = part }) (fields_from (offset + (length part + 1)) rest) r.tokens f here r.said h
 
 -- the part that comes next in a list of parts
 pub read-at : (p : CoreProgram) (line : List ℕ) (parts : List (List ℕ)) (k offset : ℕ) (s : StoreMap) (part : List ℕ) → (k < length parts) × (part ≡ get_or parts k part)

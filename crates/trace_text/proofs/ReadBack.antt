@@ -23,6 +23,7 @@ use Rattle.agent_core.specs.Stores.{IsStore, IsInput, Below}
 use Rattle.agent_core.specs.Strata.{Each}
 use Rattle.agent_core.proofs.Bools.{both, first_of_both, second_of_both}
 use Rattle.agent_core.proofs.OneStore.{value_at-fits}
+use Rattle.trace_text.specs.Limits.{longest_store_line}
 use Rattle.trace_text.specs.Inputs.{declared_cell, GivesInput}
 use Rattle.trace_text.specs.Laws.{HasOwnNames, IsInputPart}
 use Rattle.trace_text.specs.StoreLines.{cell_texts, store_line, value_texts}
@@ -176,17 +177,17 @@ module _ (p : CoreProgram) (names : HasOwnNames p) (i : StoreMap) (is : IsStore 
       subst (λ (k : ℕ). Each (Entails (value_at u (Declared k) e.cell)) (own_tokens k e i)) place
       (cells_tell u (suc n) ds (later_cells p n d ds are) (second_of_both (entails p [] u (cell_ask n (own_tokens n d i))) (entails p [] u (all_tokens (suc n) ds i)) split) j e at)
 
--- the line of a store has 23,039 bytes at most
-pub line_short : (p : CoreProgram) (i : StoreMap) → IsWellFormed p → HasOwnNames p → IsStore p i → length (store_line p i) ≤ 23039
+-- the line of a store is short
+pub line_short : (p : CoreProgram) (i : StoreMap) → IsWellFormed p → HasOwnNames p → IsStore p i → length (store_line p i) ≤ longest_store_line
 line_short p i program names is = go (cell_texts 0 (take p.declared p.cells) i) whole
   where
-    whole : length (spaced (cell_texts 0 (take p.declared p.cells) i)) ≤ 23040
+    whole : length (spaced (cell_texts 0 (take p.declared p.cells) i)) ≤ longest_store_line + 1
     whole =
         let most : length (spaced (cell_texts 0 (take p.declared p.cells) i)) ≤ 90 * length (take p.declared p.cells) = cells_short p names i is 0 (take p.declared p.cells) (declared_cells p) in
         let few : p.declared ≤ 256 = program.limits.few_declared in
         omega (arith, length-take p.declared p.cells)
 
-    go : (texts : List (List ℕ)) → length (spaced texts) ≤ 23040 → length (join_with_byte 32 texts) ≤ 23039
+    go : (texts : List (List ℕ)) → length (spaced texts) ≤ longest_store_line + 1 → length (join_with_byte 32 texts) ≤ longest_store_line
     go [] h = omega arith
     go (text ∷ texts) h = omega (arith, ap length (spaced-join text texts), length-append (join_with_byte 32 (text ∷ texts)) (32 ∷ []))
 

@@ -1,4 +1,4 @@
--- A piece that says tokens is not refused, and the first that is refused is one piece with one fault.
+-- A field that says tokens is not refused, and the first that is refused is one field with one fault.
 use Rattle.std.proofs.Common.{◌≡◌, ℕ, ◌<◌, ◌≤◌, List, [], ◌∷◌, ◌++◌, length, Some, None, refl, sym, ap, ◌∙◌, subst, arith}
 use Rattle.std.specs.Prelude.{◌≢◌}
 use Rattle.token_system.specs.declared.reading.Written.{Written}
@@ -37,7 +37,7 @@ said_not_refused p x t (WrongKind o) s other (e, w, cell, d, names, fails) =
 said_not_refused p x t LineTooLong s other r = r
 said_not_refused p x t Memory s other r = other refl
 
--- a piece has one fault
+-- a field has one fault
 pub one_refusal : (p : CoreProgram) (x : Field) (f g : LineFault) → f ≢ Memory → g ≢ Memory → RefusesField p x f → RefusesField p x g → f ≡ g
 one_refusal p x LineTooLong g a b r q = absurd r
 one_refusal p x Memory g a b r q = absurd (a refl)
@@ -57,7 +57,7 @@ one_refusal p x (WrongKind m) (BadToken n) a b (e, w, cell, d, names, fails) q =
 one_refusal p x (WrongKind m) (UnknownName n) a b (e, w, cell, d, names, fails) (e', v, text, none) = absurd (unknown_named p x.bytes v w cell d (one_reading x.bytes v w text names.text) none names)
 one_refusal p x (WrongKind m) (WrongKind n) a b r q = ap WrongKind (r.0 ∙ sym q.0)
 
--- the first refused piece of a list is one piece
+-- the first refused field of a list is one field
 first_one : (p : CoreProgram) (f g : LineFault) → f ≢ Memory → g ≢ Memory → (xs ys : List Field) (x y : Field) (us vs : List Field) (s t : Constraint)
     → xs ++ x ∷ us ≡ ys ++ y ∷ vs → DenoteAll p xs s → DenoteAll p ys t → RefusesField p x f → RefusesField p y g → x ≡ y
 first_one p f g a b [] [] x y us vs s t e sx sy r q = cc
@@ -70,8 +70,8 @@ first_one p f g a b (z ∷ xs) (w ∷ ys) x y us vs s t e (first, rest, here, la
 
 one_fault : (p : CoreProgram) (all : List Field) (f g : LineFault) → f ≢ Memory → g ≢ Memory → IsFirstRefused p all f → IsFirstRefused p all g → f ≡ g
 one_fault p all f g a b x y =
-    let same : x.piece ≡ y.piece = first_one p f g a b x.before y.before x.piece y.piece x.after y.after x.tokens y.tokens (sym x.parts ∙ y.parts) x.accepted y.accepted x.refused y.refused in
-    one_refusal p y.piece f g a b (subst (λ (z : Field). RefusesField p z f) same x.refused) y.refused
+    let same : x.field ≡ y.field = first_one p f g a b x.before y.before x.field y.field x.after y.after x.tokens y.tokens (sym x.parts ∙ y.parts) x.accepted y.accepted x.refused y.refused in
+    one_refusal p y.field f g a b (subst (λ (z : Field). RefusesField p z f) same x.refused) y.refused
 
 -- what a fault that is neither of the line as a whole nor out of memory says of a line
 within : (p : CoreProgram) (line : List ℕ) (f : LineFault) → f ≢ Memory → RefusesLine p line f → length line ≤ longest_trace_line → IsFirstRefused p (fields line) f
@@ -99,22 +99,22 @@ one_line_fault p line Memory g a b r q = absurd (a refl)
 pub given_not_refused : (p : CoreProgram) (line : List ℕ) (tokens : Constraint) (f : LineFault) → f ≢ Memory → length line ≤ longest_trace_line → DenoteAll p (fields line) tokens → RefusesLine p line f → ⊥
 given_not_refused p line tokens f other short said r =
     let x = within p line f other r short in
-    let own = say_all-middle p x.before x.piece x.after tokens (subst (λ (all : List Field). DenoteAll p all tokens) x.parts said) in
-    said_not_refused p x.piece own.0 f own.1 other x.refused
+    let own = say_all-middle p x.before x.field x.after tokens (subst (λ (all : List Field). DenoteAll p all tokens) x.parts said) in
+    said_not_refused p x.field own.0 f own.1 other x.refused
 
--- the first piece that is refused, behind fields that say tokens
+-- the first field that is refused, behind fields that say tokens
 pub first_refused : (p : CoreProgram) (all before : List Field) (x : Field) (after : List Field) (tokens : Constraint) (f : LineFault)
     → all ≡ before ++ x ∷ after → DenoteAll p before tokens → RefusesField p x f → RefusesFields p all f
-first_refused p all before x after tokens (BadToken o) e said r = record { before = before; piece = x; after = after; parts = e; tokens = tokens; accepted = said; refused = r }
-first_refused p all before x after tokens (UnknownName o) e said r = record { before = before; piece = x; after = after; parts = e; tokens = tokens; accepted = said; refused = r }
-first_refused p all before x after tokens (WrongKind o) e said r = record { before = before; piece = x; after = after; parts = e; tokens = tokens; accepted = said; refused = r }
+first_refused p all before x after tokens (BadToken o) e said r = record { before = before; field = x; after = after; parts = e; tokens = tokens; accepted = said; refused = r }
+first_refused p all before x after tokens (UnknownName o) e said r = record { before = before; field = x; after = after; parts = e; tokens = tokens; accepted = said; refused = r }
+first_refused p all before x after tokens (WrongKind o) e said r = record { before = before; field = x; after = after; parts = e; tokens = tokens; accepted = said; refused = r }
 first_refused p all before x after tokens LineTooLong e said r = absurd r
 first_refused p all before x after tokens Memory e said r = tt
 
--- a line within its limit that has a refused piece
+-- a line within its limit that has a refused field
 pub line_refused : (p : CoreProgram) (line : List ℕ) (f : LineFault) → length line ≤ longest_trace_line → RefusesFields p (fields line) f → RefusesLine p line f
 line_refused p line (BadToken o) short r = (short, r)
 line_refused p line (UnknownName o) short r = (short, r)
 line_refused p line (WrongKind o) short r = (short, r)
-line_refused p line LineTooLong short r = absurd (let h : RefusesField p r.piece LineTooLong = r.refused in h)
+line_refused p line LineTooLong short r = absurd (let h : RefusesField p r.field LineTooLong = r.refused in h)
 line_refused p line Memory short r = (short, r)

@@ -1,4 +1,4 @@
--- What pieces say: tokens that fit the cells that they name, and no others.
+-- What fields say: tokens that fit the cells that they name, and no others.
 use Rattle.std.proofs.Common.{◌≡◌, ℕ, ◌<◌, List, [], ◌∷◌, ◌++◌, Some, None, refl, sym, ap, ◌∙◌, subst, append_assoc}
 use Rattle.std.specs.Prelude.{Option, IsTrue, slice_get}
 use Rattle.std.proofs.lemmas.List.{append-nil}
@@ -50,7 +50,7 @@ say_all-append p (x ∷ xs) ys s t (first, rest, here, later, e) b =
 pub say_one : (p : CoreProgram) (x : Field) (tokens : Constraint) → Denotes p x.bytes tokens → DenoteAll p (x ∷ []) tokens
 say_one p x tokens h = (tokens, [], h, refl, sym (append-nil tokens))
 
--- one of some pieces that all say tokens
+-- one of some fields that all say tokens
 pub say_all-middle : (p : CoreProgram) (before : List Field) (x : Field) (after : List Field) (tokens : Constraint) → DenoteAll p (before ++ x ∷ after) tokens → (own : Constraint) × Denotes p x.bytes own
 say_all-middle p [] x after tokens (first, rest, here, later, e) = (first, here)
 say_all-middle p (y ∷ before) x after tokens (first, rest, here, later, e) = say_all-middle p before x after rest later

@@ -42,11 +42,11 @@ no_blanks : (p : CoreProgram) (texts : List (List ℕ)) (tokens : Constraint) �
 no_blanks p [] tokens h = tt
 no_blanks p (text ∷ texts) tokens (first, rest, here, later, e) = ((text_facts text here.written here.names.text).no_blank, no_blanks p texts rest later)
 
-placed_say : (p : CoreProgram) (offset : ℕ) (texts : List (List ℕ)) (tokens : Constraint) → SayTexts p texts tokens → DenoteAll p (filter (λ (piece : Field). is_some piece.bytes) (placed_fields offset texts)) tokens
+placed_say : (p : CoreProgram) (offset : ℕ) (texts : List (List ℕ)) (tokens : Constraint) → SayTexts p texts tokens → DenoteAll p (filter (λ (field : Field). is_some field.bytes) (placed_fields offset texts)) tokens
 placed_say p offset [] tokens h = h
 placed_say p offset (text ∷ texts) tokens (first, rest, here, later, e) =
-    let later_pieces : List Field = filter (λ (piece : Field). is_some piece.bytes) (placed_fields (offset + (length text + 1)) texts) in
-    subst (λ (b : Bool). DenoteAll p (cond b (record { offset = offset; bytes = text } ∷ later_pieces) later_pieces) tokens) (sym (text_facts text here.written here.names.text).some)
+    let later_fields : List Field = filter (λ (field : Field). is_some field.bytes) (placed_fields (offset + (length text + 1)) texts) in
+    subst (λ (b : Bool). DenoteAll p (cond b (record { offset = offset; bytes = text } ∷ later_fields) later_fields) tokens) (sym (text_facts text here.written here.names.text).some)
     (first, rest, here, placed_say p (offset + (length text + 1)) texts rest later, e)
 
 -- so do the fields of their line
@@ -54,7 +54,7 @@ pub line_says : (p : CoreProgram) (texts : List (List ℕ)) (tokens : Constraint
 line_says p [] tokens h = h
 line_says p (text ∷ texts) tokens h =
     let calm = no_blanks p (text ∷ texts) tokens h in
-    subst (λ (parts : List (List ℕ)). DenoteAll p (filter (λ (piece : Field). is_some piece.bytes) (placed_fields 0 parts)) tokens) (sym (split_join text texts calm.0 calm.1)) (placed_say p 0 (text ∷ texts) tokens h)
+    subst (λ (parts : List (List ℕ)). DenoteAll p (filter (λ (field : Field). is_some field.bytes) (placed_fields 0 parts)) tokens) (sym (split_join text texts calm.0 calm.1)) (placed_say p 0 (text ∷ texts) tokens h)
 
 -- with a space behind each they take 45 bytes for each text at most
 pub texts_short : (p : CoreProgram) (texts : List (List ℕ)) (tokens : Constraint) → SayTexts p texts tokens → length (spaced texts) ≤ 45 * length texts

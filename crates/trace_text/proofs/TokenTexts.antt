@@ -1,4 +1,4 @@
--- The bytes of a token's text: one at least, 44 at most, and none of them a blank. So texts with single spaces between them are the pieces of their line.
+-- The bytes of a token's text: one at least, 44 at most, and none of them a blank. So texts with single spaces between them are the fields of their line.
 use Rattle.std.proofs.Common.{◌≡◌, ℕ, ◌≤◌, Bool, true, false, not, ℤ, List, [], ◌∷◌, ◌++◌, length, Some, None, refl, sym, ap, ◌∙◌, subst, arith}
 use Rattle.std.specs.Prelude.{Option, IsTrue, nat_le, if◌then◌else◌}
 use Rattle.std.specs.List.{list_all, slice_split, onto_first, join_with_byte}

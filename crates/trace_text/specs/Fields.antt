@@ -22,4 +22,4 @@ is_some (b ∷ bytes) = true
 
 -- the fields of a line, in order: what stands between blanks, where that is not empty
 abbrev pub fields : List ℕ → List Field
-fields line = filter (λ (piece : Field). is_some piece.bytes) (placed_fields 0 (slice_split is_blank line))
+fields line = filter (λ (field : Field). is_some field.bytes) (placed_fields 0 (slice_split is_blank line))

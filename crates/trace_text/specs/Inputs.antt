@@ -1,4 +1,4 @@
--- Trace lines: which input a line gives. Each piece is the text of a token of a declared cell, and the input is the least store that entails them all. This project's own.
+-- Trace lines: which input a line gives. Each field is the text of a token of a declared cell, and the input is the least store that entails them all. This project's own.
 use Rattle.std.specs.Prelude.{◌≡◌, ℕ, ◌≤◌, Bool, true, ◌&&◌, List, [], ◌∷◌, ◌++◌, length, take, Option, Some, None, IsTrue, nat_eq, slice_get}
 use Rattle.std.specs.List.{position, slice_range}
 use Rattle.std.specs.Cmp.Lexicographic.{pointwise}
@@ -59,7 +59,7 @@ pub record Denotes (p : CoreProgram) (bytes : List ℕ) (tokens : Constraint) : 
 -- each of the fields says some tokens, and together, in order, they say these
 abbrev pub DenoteAll : CoreProgram → List Field → Constraint → Type 0
 DenoteAll p [] tokens = tokens ≡ []
-DenoteAll p (piece ∷ later) tokens = (first rest : Constraint) × Denotes p piece.bytes first × DenoteAll p later rest × (tokens ≡ first ++ rest)
+DenoteAll p (field ∷ later) tokens = (first rest : Constraint) × Denotes p field.bytes first × DenoteAll p later rest × (tokens ≡ first ++ rest)
 
 -- the line is within the limit of bytes and gives the input: the least store that entails the tokens of its fields
 pub record GivesInput (p : CoreProgram) (line : List ℕ) (i : StoreMap) : Type 0 where

@@ -2,6 +2,7 @@ pub mod Fields
 pub mod Inputs
 pub mod Limits
 pub mod Refusals
+pub mod Messages
 pub mod Tellings
 pub mod StoreLines
 pub mod Writing

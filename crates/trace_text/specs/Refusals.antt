@@ -11,31 +11,31 @@ use Rattle.trace_text.specs.declared.fault.LineFault.TheVariants.{BadToken, Unkn
 use Rattle.trace_text.specs.Fields.{Field, fields}
 use Rattle.trace_text.specs.Inputs.{declared_cell, name_in, text_fits, NamesCell, DenoteAll}
 
--- The piece has the fault, at its own place: it is no text of a token, its name is that of no declared cell, or its token does not fit the cell of that name.
--- Out of memory says nothing of a piece.
+-- The field has the fault, at its own place: it is no text of a token, its name is that of no declared cell, or its token does not fit the cell of that name.
+-- Out of memory says nothing of a field.
 abbrev pub RefusesField : CoreProgram → Field → LineFault → Type 0
-RefusesField p piece (BadToken offset) = (offset ≡ piece.offset) × ((w : Written) → IsTokenText piece.bytes w → ⊥)
-RefusesField p piece (UnknownName offset) = (offset ≡ piece.offset) × (w : Written) × IsTokenText piece.bytes w × (declared_cell p (name_in piece.bytes w) ≡ None)
-RefusesField p piece (WrongKind offset) = (offset ≡ piece.offset) × (w : Written) × (cell : ℕ) × (d : CellDecl) × NamesCell p piece.bytes w cell d × (text_fits d.cell w ≡ false)
-RefusesField p piece LineTooLong = ⊥
-RefusesField p piece Memory = Unit {0}
+RefusesField p field (BadToken offset) = (offset ≡ field.offset) × ((w : Written) → IsTokenText field.bytes w → ⊥)
+RefusesField p field (UnknownName offset) = (offset ≡ field.offset) × (w : Written) × IsTokenText field.bytes w × (declared_cell p (name_in field.bytes w) ≡ None)
+RefusesField p field (WrongKind offset) = (offset ≡ field.offset) × (w : Written) × (cell : ℕ) × (d : CellDecl) × NamesCell p field.bytes w cell d × (text_fits d.cell w ≡ false)
+RefusesField p field LineTooLong = ⊥
+RefusesField p field Memory = Unit {0}
 
 -- one of the fields has the fault, and each before it says tokens, so that none of those is refused
 pub record IsFirstRefused (p : CoreProgram) (all : List Field) (fault : LineFault) : Type 0 where
   pub before : List Field
-  pub piece : Field
+  pub field : Field
   pub after : List Field
-  pub parts : all ≡ before ++ piece ∷ after
+  pub parts : all ≡ before ++ field ∷ after
   pub tokens : Constraint
   pub accepted : DenoteAll p before tokens
-  pub refused : RefusesField p piece fault
+  pub refused : RefusesField p field fault
 
--- the fault is that of the first piece that is refused; out of memory says nothing of the fields
+-- the fault is that of the first field that is refused; out of memory says nothing of the fields
 abbrev pub RefusesFields : CoreProgram → List Field → LineFault → Type 0
 RefusesFields p all Memory = Unit {0}
 RefusesFields p all fault = IsFirstRefused p all fault
 
--- The line has the fault: it is over the limit of bytes, or it is within it and its first refused piece has the fault. Out of memory says no more than that the line is within the limit.
+-- The line has the fault: it is over the limit of bytes, or it is within it and its first refused field has the fault. Out of memory says no more than that the line is within the limit.
 abbrev pub RefusesLine : CoreProgram → List ℕ → LineFault → Type 0
 RefusesLine p line LineTooLong = longest_trace_line < length line
 RefusesLine p line fault = (length line ≤ longest_trace_line) × RefusesFields p (fields line) fault

@@ -1,4 +1,4 @@
--- The store after a token, or those of a piece, are told. This project's own.
+-- The store after a token, or those of a field, are told. This project's own.
 use Rattle.std.specs.Prelude.{◌≡◌, ℕ, List, [], slice_get}
 use Rattle.token_system.specs.declared.cell.Token.{Token}
 use Rattle.token_system.specs.Stores.{StoreMap}
@@ -13,13 +13,13 @@ abbrev pub told_one : CoreProgram → ℕ × Token → StoreMap → StoreMap
 told_one p pair u = tell_at (slice_get p.cells pair.0) p [] u pair.0 pair.1
 
 -- the bytes say some tokens, and these are told
-pub record TellsPiece (p : CoreProgram) (bytes : List ℕ) (old new : StoreMap) : Type 0 where
+pub record TellsField (p : CoreProgram) (bytes : List ℕ) (old new : StoreMap) : Type 0 where
   pub tokens : Constraint
   pub said : Denotes p bytes tokens
   pub told : new ≡ tell_all p [] tokens old
 
--- each of the pieces says some tokens, and these are told in order
-pub record TellsPieces (p : CoreProgram) (all : List Field) (old new : StoreMap) : Type 0 where
+-- each of the fields says some tokens, and these are told in order
+pub record TellsFields (p : CoreProgram) (all : List Field) (old new : StoreMap) : Type 0 where
   pub tokens : Constraint
   pub said : DenoteAll p all tokens
   pub told : new ≡ tell_all p [] tokens old

@@ -7,7 +7,7 @@ ghost use Rattle.agent_core.specs.Stores.{IsInput};
 ghost use Rattle.trace_text.specs.Generated.{program_text, trace_lines};
 ghost use Rattle.trace_text.specs.Inputs.{GivesInput};
 ghost use Rattle.trace_text.specs.Laws.{HasOneReading, HasOwnNames, IsInputPart, IsLine};
-ghost use Rattle.trace_text.specs.Limits.{longest_trace_line};
+ghost use Rattle.trace_text.specs.Limits.{longest_store_line, longest_trace_line};
 ghost use Rattle.trace_text.specs.StoreLines.{store_line};
 
 use crate::limits::LONGEST_TRACE_LINE;
@@ -26,12 +26,13 @@ pub fn writing_law()
     ensures two_lines { (p : CoreProgram) (v w : StoreMap) → IsWellFormed p → HasOwnNames p
         → IsInput p v → IsInput p w → store_line p v ≡ store_line p w → v ≡ w }
     ensures short { (p : CoreProgram) (v : StoreMap) → IsWellFormed p → HasOwnNames p → IsInput p v
-        → length (store_line p v) ≤ 23039 }
+        → length (store_line p v) ≤ longest_store_line }
 {}
 
-/// The limit of the code is the one that the definitions name.
+/// The limit of the code is the one that the definitions name, and the line of a store is within it.
 pub fn limits_law()
-    ensures { LONGEST_TRACE_LINE ≡ longest_trace_line }
+    ensures trace_line { LONGEST_TRACE_LINE ≡ longest_trace_line }
+    ensures store_line { longest_store_line ≤ longest_trace_line }
 {}
 
 /// A generated program is one line, and the trace of a number has so many lines, of three signals

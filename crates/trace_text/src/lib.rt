@@ -4,11 +4,11 @@
 
 mod draws;
 mod fault;
+mod field;
 mod generator;
 mod laws;
 mod limits;
 mod line;
-mod piece;
 mod store_line;
 mod telling;
 #[cfg(test)]

@@ -5,11 +5,11 @@ ghost use Rattle.trace_text.specs.Limits.{longest_trace_line};
 ghost use Rattle.trace_text.specs.Fields.{is_blank as is_blank_byte, fields};
 ghost use Rattle.trace_text.specs.Inputs.{GivesInput};
 ghost use Rattle.trace_text.specs.Refusals.{RefusesLine, RefusesFields};
-ghost use Rattle.trace_text.specs.Tellings.{TellsPieces};
+ghost use Rattle.trace_text.specs.Tellings.{TellsFields};
 
 use crate::fault::LineFault;
+use crate::field::tell_field;
 use crate::limits::LONGEST_TRACE_LINE;
-use crate::piece::tell_field;
 use agent_core::Program;
 use std::alloc::Global;
 use token_system::Store;
@@ -20,11 +20,11 @@ fn is_blank(byte: u8) -> bool
     byte == b' ' || byte == b'\t' || byte == b'\r'
 }
 
-/// Tells the tokens of each piece of a line to a store of which nothing is told.
+/// Tells the tokens of each field of a line to a store of which nothing is told.
 fn tell_fields(program: &Program, line: &[u8], store: &mut Store) -> Result<(), LineFault>
     requires short { length line.now ≤ longest_trace_line }
     requires nothing_told { store.old ≡ map.empty }
-    ensures told { OnOk result (TellsPieces program.now (fields line.now) store.old store.new) }
+    ensures told { OnOk result (TellsFields program.now (fields line.now) store.old store.new) }
     ensures refused { IfErr result (RefusesFields program.now (fields line.now)) }
 {
     let mut offset: u32 = 0;
@@ -38,7 +38,7 @@ fn tell_fields(program: &Program, line: &[u8], store: &mut Store) -> Result<(), 
 }
 
 /// Reads a trace line: the least store over the declared cells that entails all its tokens. The
-/// line has no line feed at its end. Its first piece that is refused decides what is answered, and
+/// line has no line feed at its end. Its first field that is refused decides what is answered, and
 /// before that a line of more than `LONGEST_TRACE_LINE` bytes is refused whole.
 pub fn read_input(alloc: Global, program: &Program, line: &[u8]) -> Result<Store, LineFault>
     ensures given { IfOk result (GivesInput program.now line.now) }

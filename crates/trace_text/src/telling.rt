@@ -1,4 +1,4 @@
-//! Telling the tokens of a piece to a store.
+//! Telling the tokens of a field to a store.
 ghost use Rattle.std.specs.Prelude.{◌≡◌, [], OnOk};
 ghost use Rattle.agent_core.specs.Stores.{IsStore};
 ghost use Rattle.agent_core.specs.Scope.{TokenFits, ConstraintFits};

@@ -119,7 +119,7 @@ fn blanks_stand_anywhere_and_tokens_may_repeat(rt: HostRuntime) -> Result<(), Fa
 }
 
 #[test]
-fn the_first_refused_piece_decides(rt: HostRuntime) -> Result<(), Fail> {
+fn the_first_refused_field_decides(rt: HostRuntime) -> Result<(), Fail> {
     let alloc = rt.alloc();
     let program = two_numbers_and_two_signals(alloc)?;
     for (line, wanted) in [
@@ -157,7 +157,7 @@ fn a_line_has_up_to_32768_bytes(rt: HostRuntime) -> Result<(), Fail> {
     let mut line = vec![in alloc; b' '; 32_767]?;
     line.push(b'a')?;
     assert_rewritten(&rt, alloc, &program, &line, b"a")?;
-    // no piece is looked at
+    // no field is looked at
     line.push(b'&')?;
     match rewritten(alloc, &program, &line) {
         Ok(_) => assert!(rt; false, "it is read"),

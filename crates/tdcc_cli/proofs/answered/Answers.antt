@@ -35,6 +35,7 @@ returns g c =
         usage = k.usage;
         usage_source = λ is. same_source g.S.Source.left g.S.Source.faults g.S.Source.steady _ _ (k.usage_source is);
         usage_out = λ is. same_sink g.K.Sink.written g.K.Sink.faults g.K.Sink.room _ _ (k.usage_out is);
+        reads = k.reads;
         ended = k.ended;
         generated = λ command called made. same_source g.S.Source.left g.S.Source.faults g.S.Source.steady _ _ (k.generated command called made);
         statuses = k.statuses;

@@ -1,5 +1,6 @@
 //! What `run` writes is what the evaluator of the definitions finds, which walks the whole history at each instant.
 ghost use Rattle.std.specs.Prelude.{◌≤◌, All, IfOk, length};
+ghost use Rattle.agent_core.specs.Limits.{most_instants};
 ghost use Rattle.agent_core.specs.Stores.{IsInput};
 
 use super::assert_run;
@@ -16,9 +17,9 @@ use trace_text::{generate, read_input, write_store};
 
 /// The inputs that these lines give.
 fn inputs_of(alloc: Global, program: &Program, lines: &[&str]) -> Result<Vec<Store>, Fail>
-    requires { length lines.now ≤ 65536 }
+    requires { length lines.now ≤ most_instants }
     ensures inputs { IfOk result (λ ins. All (IsInput program.now) ins.items) }
-    ensures bounded { IfOk result (λ ins. length ins.items ≤ 65536) }
+    ensures bounded { IfOk result (λ ins. length ins.items ≤ most_instants) }
 {
     let mut ins = Vec::new(alloc);
     for line in lines {
@@ -32,7 +33,7 @@ fn inputs_of(alloc: Global, program: &Program, lines: &[&str]) -> Result<Vec<Sto
 
 /// The store lines of the program's run on these lines, as the evaluator finds them.
 fn found_slowly(alloc: Global, text: &[u8], lines: &[&str]) -> Result<Vec<u8>, Fail>
-    requires { length lines.now ≤ 65536 }
+    requires { length lines.now ≤ most_instants }
 {
     let Ok(program) = program_of(alloc, text) else {
         return Err(Fail::from("no program"));
@@ -56,7 +57,7 @@ fn assert_same<R: Threads + Sync + Abort>(
     text: &str,
     lines: &[&str],
 ) -> Result<(), Fail>
-    requires { length lines.now ≤ 65536 }
+    requires { length lines.now ≤ most_instants }
 {
     let mut input = text.as_bytes().to_vec(alloc)?;
     input.extend_from_slice(b"\n%%\n")?;

@@ -52,7 +52,7 @@ fn lines_have_all_tokens(rt: HostRuntime) -> Result<(), Fail> {
 }
 
 #[test]
-fn the_first_piece_that_is_refused_is_named_at_its_place(rt: HostRuntime) -> Result<(), Fail> {
+fn the_first_field_that_is_refused_is_named_at_its_place(rt: HostRuntime) -> Result<(), Fail> {
     let alloc = rt.alloc();
     let unknown = b"signal a; a || hence a\n%%\n\n\nq\n".as_slice();
     let wanted = "4|a\na\n|tdcc: trace: instant 2: unknown name at offset 0\n";

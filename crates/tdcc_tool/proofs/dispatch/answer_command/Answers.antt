@@ -1,6 +1,8 @@
-use Rattle.std.proofs.Common.{◌≡◌, [], Some}
+use Rattle.std.proofs.Common.{◌≡◌, [], Some, subst}
 use Rattle.std.specs.Prelude.{OnSome}
 use Rattle.tdcc_base.specs.declared.status.Status.TheVariants.{Ok as Whole}
+use Rattle.tdcc_tool.specs.declared.task.Task.{Task}
+use Rattle.tdcc_tool.specs.Reading.{LeavesOpen, ReadsAsNeeded}
 use Rattle.tdcc_tool.proofs.Commands.{answered_by, ended_by, not_generated}
 use Rattle.tdcc_tool.proofs.dispatch.answer_command.Goals as goal
 
@@ -16,6 +18,7 @@ returns-in_default g c =
       generates = λ bytes is. absurd (not is);
       unread = λ is. absurd (not is);
       command_end = k.command_end;
+      reads = λ _ says. subst (λ (task : Task). ReadsAsNeeded g.S.Source.read_gives (LeavesOpen task) c.args.source.now c.answer.new.source) same (k.reads says);
       read = k.read;
       steady = k.steady;
     }

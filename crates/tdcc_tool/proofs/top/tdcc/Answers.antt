@@ -1,4 +1,4 @@
-use Rattle.std.proofs.Common.{[], Err, false, refl, ◌∙◌, inl, inr, subst}
+use Rattle.std.proofs.Common.{arith, [], Err, false, refl, ◌∙◌, inl, inr, subst}
 use Rattle.std.specs.Io.KnownBytes.{Appends}
 use Rattle.tdcc_base.specs.Written.{AppendsProperPrefix, WritesUntilFault}
 use Rattle.tdcc_base.proofs.Known.{Appends-nothing}
@@ -6,7 +6,7 @@ use Rattle.tdcc_tool.specs.Messages.{usage_line}
 use Rattle.command_words.specs.declared.command.Command.TheVariants.{Run, Report}
 use Rattle.tdcc_tool.specs.Answers.{WordsCall}
 use Rattle.tdcc_tool.proofs.Texts.{IfSome-all, true_and_false}
-use Rattle.tdcc_tool.proofs.Commands.{has_net_limit}
+use Rattle.tdcc_tool.proofs.Commands.{has_net_limit, reads_called}
 use Rattle.tdcc_tool.proofs.KnownInputs.{holds_of}
 use Rattle.tdcc_tool.proofs.GeneratedRuns.{generated_whole}
 use Rattle.tdcc_tool.proofs.OneAnswer.{one_answer}
@@ -56,3 +56,21 @@ returns-in-Ok-write_all-clause-answer g c _ bytes may =
 
 pub answer_command-requires : goal.answer_command-requires
 answer_command-requires g c = record { net = has_net_limit c.args.words.now c.in-Some.command c.in-Some.ensures }
+
+pub returns-in-Ok-write_all-clause-reads : goal.returns-in-Ok-write_all-clause-reads
+returns-in-Ok-write_all-clause-reads g c command called not says =
+    reads_called g.S.Source.read_gives c.args.words.now c.in-Some.command command c.args.source.now c.answer_command.new.source c.in-Some.ensures called not
+    (λ own. c.in-Ok.ensures.reads own (λ e. cc))
+
+pub returns-in-Ok-clause-reads : goal.returns-in-Ok-clause-reads
+returns-in-Ok-clause-reads g c command called not says =
+    reads_called g.S.Source.read_gives c.args.words.now c.in-Some.command command c.args.source.now c.answer_command.new.source c.in-Some.ensures called not
+    (λ own. c.in-Ok.ensures.reads own (λ e. cc))
+
+pub returns-in-Err-Read-clause-reads : goal.returns-in-Err-Read-clause-reads
+returns-in-Err-Read-clause-reads g c command called not says =
+    reads_called g.S.Source.read_gives c.args.words.now c.in-Some.command command c.args.source.now c.answer_command.new.source c.in-Some.ensures called not
+    (λ own. c.in-Err-Read.ensures.reads own (λ e. cc))
+
+pub returns-in-Err-Read-clause-cut_out : goal.returns-in-Err-Read-clause-cut_out
+returns-in-Err-Read-clause-cut_out g c bytes given known taken lines s o e whole answer = (0, omega arith, Appends-nothing (g.K.Sink.written c.args.out.now))

@@ -1,5 +1,5 @@
 use Rattle.std.proofs.Common.{◌≡◌, ◌≤◌, ◌-◌}
-use Rattle.std.specs.Prelude.{vec_len, vec_capacity, IsTrue}
+use Rattle.std.specs.Prelude.{length, vec_len, vec_capacity, IsTrue}
 use Rattle.tdcc_base.specs.Unread.{unread, IsReady, IsOver, StaysEnded}
 use Rattle.tdcc_base.proofs.LineSteps.{TakesFront}
 use Rattle.tdcc_base.proofs.ReadSteps.{LineSoFar}
@@ -14,7 +14,7 @@ invariant-bytes g l = record {
   stays : StaysEnded l.fn.self l.self l.fn.source l.source;
   over : IsOver l.fn.self → (l.self ≡ l.fn.self) × (l.into.items ≡ l.fn.into.items);
   same : g.S.Source.faults l.source ≡ g.S.Source.faults l.fn.source;
-  reads : LineSoFar g.S.Source.read_gives l.fn.self l.self l.fn.into.items l.into.items l.fn.source l.source;
+  reads : LineSoFar g.S.Source.read_gives (l.limit - length l.fn.into.items) l.fn.self l.self l.fn.into.items l.into.items l.fn.source l.source;
   steady : IsTrue (g.S.Source.steady l.fn.source) → IsTrue (g.S.Source.steady l.source);
 }
 

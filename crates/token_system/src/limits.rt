@@ -1,0 +1,2 @@
+/// The greatest number that a bound may name and a domain may have; the least is its negation.
+pub const GREATEST_BOUND: i64 = 999_999_999;

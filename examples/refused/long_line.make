@@ -1,0 +1,2 @@
+printf 'signal door;\nskip\n%%%%\ndoor\n'
+yes door | head -n 6600 | tr '\n' ' '

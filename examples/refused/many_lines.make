@@ -1,0 +1,2 @@
+printf 'skip\n%%%%\n'
+yes '' | head -n 65537
