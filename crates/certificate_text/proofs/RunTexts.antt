@@ -13,7 +13,7 @@ use Rattle.names_and_numbers.proofs.Printed.{decimal_digits}
 use Rattle.agent_core.specs.Strata.{Each}
 use Rattle.agent_laws.proofs.Eachs.{all_each, each_all}
 use Rattle.trace_text.specs.Fields.{Field, fields, is_blank, is_some}
-use Rattle.trace_text.proofs.LineWalks.{span, span-split, pieces_from}
+use Rattle.trace_text.proofs.LineWalks.{span, span-split, fields_from}
 use Rattle.certificate_text.specs.Limits.{longest_entry_line}
 use Rattle.certificate_text.specs.RunLines.{run_text, number_then, numbers_in, numbers_behind_run, numbers_then, left_to_read}
 use Rattle.certificate_text.specs.Laws.{RunsReadBack}
@@ -54,28 +54,28 @@ decimal_some n lt = numeral_some (decimal n) (decimal_digits n (omega arith))
 
 -- a part that is not empty is a piece, and an empty one is none
 pub piece_first : (offset : ℕ) (part : List ℕ) (rest : List (List ℕ)) → is_some part ≡ true
-    → pieces_from offset (part ∷ rest) ≡ record { offset = offset; bytes = part } ∷ pieces_from (offset + (length part + 1)) rest
-piece_first offset part rest some = ap (λ b. cond b (record { offset = offset; bytes = part } ∷ pieces_from (offset + (length part + 1)) rest) (pieces_from (offset + (length part + 1)) rest)) some
+    → fields_from offset (part ∷ rest) ≡ record { offset = offset; bytes = part } ∷ fields_from (offset + (length part + 1)) rest
+piece_first offset part rest some = ap (λ b. cond b (record { offset = offset; bytes = part } ∷ fields_from (offset + (length part + 1)) rest) (fields_from (offset + (length part + 1)) rest)) some
 
-pub piece_skipped : (offset : ℕ) (part : List ℕ) (rest : List (List ℕ)) → is_some part ≡ false → pieces_from offset (part ∷ rest) ≡ pieces_from (offset + (length part + 1)) rest
-piece_skipped offset part rest none = ap (λ b. cond b (record { offset = offset; bytes = part } ∷ pieces_from (offset + (length part + 1)) rest) (pieces_from (offset + (length part + 1)) rest)) none
+pub piece_skipped : (offset : ℕ) (part : List ℕ) (rest : List (List ℕ)) → is_some part ≡ false → fields_from offset (part ∷ rest) ≡ fields_from (offset + (length part + 1)) rest
+piece_skipped offset part rest none = ap (λ b. cond b (record { offset = offset; bytes = part } ∷ fields_from (offset + (length part + 1)) rest) (fields_from (offset + (length part + 1)) rest)) none
 
 -- numbers with a space before each but the first
 abbrev numbers_text : ℕ → List ℕ → List ℕ
 numbers_text n ns = decimal n ++ flat_map (λ m. codes " " ++ decimal m) ns
 
-numbers-back : (offset n : ℕ) (ns : List ℕ) → n < 10 ^ 9 → Each (λ m. m < 10 ^ 9) ns → numbers_in (pieces_from offset (slice_split is_blank (numbers_text n ns))) ≡ Ok (n ∷ ns)
+numbers-back : (offset n : ℕ) (ns : List ℕ) → n < 10 ^ 9 → Each (λ m. m < 10 ^ 9) ns → numbers_in (fields_from offset (slice_split is_blank (numbers_text n ns))) ≡ Ok (n ∷ ns)
 numbers-back offset n [] lt small =
-    ap (λ (text : List ℕ). numbers_in (pieces_from offset (slice_split is_blank text))) (append-nil (decimal n))
-    ∙ ap (λ parts. numbers_in (pieces_from offset parts)) (slice_split_none is_blank (decimal n) (decimal_no_blank n lt))
+    ap (λ (text : List ℕ). numbers_in (fields_from offset (slice_split is_blank text))) (append-nil (decimal n))
+    ∙ ap (λ parts. numbers_in (fields_from offset parts)) (slice_split_none is_blank (decimal n) (decimal_no_blank n lt))
     ∙ ap numbers_in (piece_first offset (decimal n) [] (decimal_some n lt))
     ∙ ap (λ o. number_then offset o (Ok [])) (natural-decimal n lt)
 numbers-back offset n (m ∷ ns) lt small =
     let later = slice_split is_blank (numbers_text m ns) in
     let behind = offset + (length (decimal n) + 1) in
-    ap (λ parts. numbers_in (pieces_from offset parts)) (slice_split_at is_blank (decimal n) 32 (numbers_text m ns) (decimal_no_blank n lt) refl)
+    ap (λ parts. numbers_in (fields_from offset parts)) (slice_split_at is_blank (decimal n) 32 (numbers_text m ns) (decimal_no_blank n lt) refl)
     ∙ ap numbers_in (piece_first offset (decimal n) later (decimal_some n lt))
-    ∙ ap (λ o. number_then offset o (numbers_in (pieces_from behind later))) (natural-decimal n lt)
+    ∙ ap (λ o. number_then offset o (numbers_in (fields_from behind later))) (natural-decimal n lt)
     ∙ ap (λ o. number_then offset (Some n) o) (numbers-back behind m ns small.0 small.1)
 
 word_no_blank : All (λ b. is_blank b ≡ false) (codes "run")
@@ -84,7 +84,7 @@ word_no_blank = each_all (λ b. is_blank b ≡ false) (codes "run") (refl, (refl
 pieces-back : (ns : List ℕ) → Each (λ m. m < 10 ^ 9) ns → numbers_behind_run (fields (run_text ns)) ≡ Ok ns
 pieces-back [] small = refl
 pieces-back (n ∷ ns) small =
-    ap (λ parts. numbers_behind_run (pieces_from 0 parts)) (slice_split_at is_blank (codes "run") 32 (numbers_text n ns) word_no_blank refl)
+    ap (λ parts. numbers_behind_run (fields_from 0 parts)) (slice_split_at is_blank (codes "run") 32 (numbers_text n ns) word_no_blank refl)
     ∙ numbers-back 4 n ns small.0 small.1
 
 pub runs_law : RunsReadBack
@@ -98,7 +98,7 @@ runs_law ns small short = go (nat_lt longest_entry_line (length (run_text ns))) 
 
 -- these parts of the line are left, of which the first stands at this place
 pub record PiecesRead (line : List ℕ) (rest : List (List ℕ)) (offset : ℕ) (worded : Bool) (read : List ℕ) : Type 0 where
-  pub whole : numbers_behind_run (fields line) ≡ left_to_read worded read (pieces_from offset rest)
+  pub whole : numbers_behind_run (fields line) ≡ left_to_read worded read (fields_from offset rest)
   pub left : offset + span rest ≡ length line + 1
 
 pub read-start : (line : List ℕ) → PiecesRead line (slice_split is_blank line) 0 false []
@@ -121,13 +121,13 @@ module _ (line : List ℕ) (part : List ℕ) (rest : List (List ℕ)) (offset : 
   read-skip none = record { whole = r.whole ∙ ap (left_to_read worded read) (piece_skipped offset part rest none); left = left_over }
 
   -- a piece comes next
-  pub read-here : is_some part ≡ true → numbers_behind_run (fields line) ≡ left_to_read worded read (record { offset = offset; bytes = part } ∷ pieces_from (offset + (length part + 1)) rest)
+  pub read-here : is_some part ≡ true → numbers_behind_run (fields line) ≡ left_to_read worded read (record { offset = offset; bytes = part } ∷ fields_from (offset + (length part + 1)) rest)
   read-here some = r.whole ∙ ap (left_to_read worded read) (piece_first offset part rest some)
 
   -- a piece was read
   pub read-piece : is_some part ≡ true → (now : Bool) (numbers : List ℕ)
       → ((later : List Field) → left_to_read worded read (record { offset = offset; bytes = part } ∷ later) ≡ left_to_read now numbers later) → PiecesRead line rest (offset + (length part + 1)) now numbers
-  read-piece some now numbers same = record { whole = read-here some ∙ same (pieces_from (offset + (length part + 1)) rest); left = left_over }
+  read-piece some now numbers same = record { whole = read-here some ∙ same (fields_from (offset + (length part + 1)) rest); left = left_over }
 
 -- the part that comes next in a list of parts
 pub read-at : (line : List ℕ) (parts : List (List ℕ)) (k offset : ℕ) (worded : Bool) (read : List ℕ) (part : List ℕ) → (k < length parts) × (part ≡ get_or parts k part)

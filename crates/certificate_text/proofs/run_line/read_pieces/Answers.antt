@@ -4,7 +4,7 @@ use Rattle.std.proofs.lemmas.Iterator.Consumers.{YieldsList-turn, YieldsList-end
 use Rattle.std.proofs.lemmas.Iterator.Splits.{YieldsList-from_slice_split}
 use Rattle.std.proofs.lemmas.Result.{err_from_is_err_and}
 use Rattle.trace_text.specs.Fields.{is_blank}
-use Rattle.trace_text.proofs.LineWalks.{pieces_from, some_part, empty_part}
+use Rattle.trace_text.proofs.LineWalks.{fields_from, some_part, empty_part}
 use Rattle.certificate_text.proofs.RunTexts.{PiecesRead, read-start, read-skip, read-here, read-piece, read-at, read-past, read-pushed}
 use Rattle.certificate_text.specs.RunLines.{IsFaultOf}
 use Rattle.certificate_text.proofs.run_line.read_pieces.Goals as goal
@@ -21,7 +21,7 @@ returns-in_err-read_piece-clause-bad c =
     let failed = err_from_is_err_and c.from_residual.result c.from_residual.ensures.1 in
     let same = read-here c.args.line.now c.in-Some.part.now rest c.loop-part.offset c.loop-part.run.worded c.loop-part.run.numbers.items here (some_part c.in-Some.part.now c.is_empty.result c.is_empty.ensures c.if-not-is_empty.true) in
     rw (failed.1, failed.2)
-    (subst (λ said. IsFaultOf said c.in_err-read_piece.field-0.0) (sym same) (c.in_err-read_piece.ensures.bad (pieces_from (c.loop-part.offset + (length c.in-Some.part.now + 1)) rest)))
+    (subst (λ said. IsFaultOf said c.in_err-read_piece.field-0.0) (sym same) (c.in_err-read_piece.ensures.bad (fields_from (c.loop-part.offset + (length c.in-Some.part.now + 1)) rest)))
 
 pub loop-part-preserved : goal.loop-part-preserved
 loop-part-preserved c =
