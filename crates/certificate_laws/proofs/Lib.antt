@@ -1,4 +1,5 @@
 pub mod Certified
 pub mod Growing
 pub mod CertifiedRuns
+pub mod Walks
 pub mod Samples

@@ -1,5 +1,5 @@
 -- The certificates that are worked out, and the stores that have none.
-use Rattle.std.proofs.Common.{◌≡◌, inl, inr, ℕ, Bool, true, false, ◌&&◌, not, List, [], ◌∷◌, refl, sym, ap, ◌∙◌, arith}
+use Rattle.std.proofs.Common.{subst, ◌≡◌, inl, ℕ, zero, suc, Bool, true, false, ◌&&◌, not, List, [], ◌∷◌, refl, sym, ap, ◌∙◌, arith}
 use Rattle.std.specs.Prelude.{IsTrue}
 use Rattle.std.specs.FinMap.{get-empty, get-insert}
 use Rattle.token_system.specs.declared.cell.Value.{Value}
@@ -12,13 +12,13 @@ use Rattle.agent_core.specs.WellFormed.{IsConstraint, IsWellFormed}
 use Rattle.agent_core.specs.Outputs.{IsOutput}
 use Rattle.agent_core.specs.Rests.{entails}
 use Rattle.agent_core.specs.RestsAfter.{obs}
-use Rattle.agent_core.specs.Leaves.{Negative, leaf}
-use Rattle.agent_core.specs.Strata.{HasNoTable}
+use Rattle.agent_core.specs.Leaves.{Leaf, Negative, leaf, runs}
+use Rattle.agent_core.specs.Strata.{HasNoTable, In}
 use Rattle.agent_core.specs.Worked.{a_decl, a_on, nothing, only_a}
 use Rattle.agent_core.proofs.Tellings.{Below-refl, empty-IsStore, empty-Below}
 use Rattle.agent_laws.specs.Worked.{signal, on, only_b}
 use Rattle.agent_laws.proofs.SampleOutputs.{tell_a, tell_b}
-use Rattle.certificate_laws.specs.LeafNumbers.{IsCertificate}
+use Rattle.certificate_laws.specs.LeafNumbers.{IsCertificate, AreListed}
 use Rattle.certificate_laws.specs.CertifiedRuns.{leaves_after}
 use Rattle.certificate_laws.specs.Worked.{over_both, a_and_b, one_of_two, each_by_other}
 use Rattle.certificate_laws.proofs.CertifiedRuns.{certified_after-output}
@@ -98,16 +98,19 @@ asks-not : (x : Bool) → x ≡ false → IsTrue (x && true) → ⊥
 asks-not true e h = true_false e
 asks-not false e h = true_false (sym h)
 
+-- of two leaves, those that are run are listed
+pair_listed : (p : CoreProgram) (a b : Leaf) (v : StoreMap) (numbers : List ℕ) → (IsTrue (runs p v a) → In 0 numbers) → (IsTrue (runs p v b) → In 1 numbers) → AreListed p (a ∷ b ∷ []) v numbers
+pair_listed p a b v numbers first second zero l at e r = first (subst (λ x. IsTrue (runs p v x)) (let same : l ≡ a = cc in same) r)
+pair_listed p a b v numbers first second (suc zero) l at e r = second (subst (λ x. IsTrue (runs p v x)) (let same : l ≡ b = cc in same) r)
+pair_listed p a b v numbers first second (suc (suc n)) l at e r = absurd (cc)
+
 pub b-certified : IsCertificate one_of_two (leaves_after one_of_two []) nothing only_b (0 ∷ [])
 b-certified = record {
   once = (λ i. absurd i, tt);
   run = leaf 2 (Tell (on 1)) [] (Negative [] a_on ∷ []) ∷ [];
   numbered = (refl, tt);
-  certifies = record {
-    from = (inl refl, tt);
-    leads = (record { tells = refl; asked = refl; free = free-alone _ (b_without_a two) }, tell_b);
-    whole = (λ e r. inl refl, (λ e r. absurd (runs-not _ (b_with_b two) r), tt));
-  };
+  leads = (record { tells = refl; asked = refl; free = free-alone _ (b_without_a two) }, tell_b);
+  listed = pair_listed one_of_two _ _ only_b (0 ∷ []) (λ r. inl refl) (λ r. absurd (runs-not _ (b_with_b two) r));
 }
 
 pub a-certified : IsCertificate one_of_two (leaves_after one_of_two []) nothing only_a (1 ∷ [])
@@ -115,11 +118,8 @@ a-certified = record {
   once = (λ i. absurd i, tt);
   run = leaf 4 (Tell a_on) [] (Negative [] (on 1) ∷ []) ∷ [];
   numbered = (refl, tt);
-  certifies = record {
-    from = (inr (inl refl), tt);
-    leads = (record { tells = refl; asked = refl; free = free-alone _ (a_without_b two) }, tell_a);
-    whole = (λ e r. absurd (runs-not _ (a_with_a two) r), (λ e r. inl refl, tt));
-  };
+  leads = (record { tells = refl; asked = refl; free = free-alone _ (a_without_b two) }, tell_a);
+  listed = pair_listed one_of_two _ _ only_a (1 ∷ []) (λ r. absurd (runs-not _ (a_with_a two) r)) (λ r. inl refl);
 }
 
 pub nobody-certified : IsCertificate each_by_other (leaves_after each_by_other []) nothing nothing []
@@ -127,11 +127,8 @@ nobody-certified = record {
   once = tt;
   run = [];
   numbered = tt;
-  certifies = record {
-    from = tt;
-    leads = refl;
-    whole = (λ e r. absurd (asks-not _ (nothing_without_a ring) r), (λ e r. absurd (asks-not _ (nothing_without_b ring) r), tt));
-  };
+  leads = refl;
+  listed = pair_listed each_by_other _ _ nothing [] (λ r. absurd (asks-not _ (nothing_without_a ring) r)) (λ r. absurd (asks-not _ (nothing_without_b ring) r));
 }
 
 -- AND WHAT HAS NONE

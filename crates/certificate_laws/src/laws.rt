@@ -1,3 +1,8 @@
+ghost use Rattle.std.specs.Prelude.{ℕ, List};
+ghost use Rattle.token_system.specs.Stores.{StoreMap};
+ghost use Rattle.agent_core.specs.Programs.{CoreProgram};
+ghost use Rattle.agent_core.specs.Leaves.{Leaf};
+ghost use Rattle.certificate_laws.specs.Reasons.{HasExactReasons};
 ghost use Rattle.certificate_laws.specs.Laws.{CertifiedAreOutputs, CertifiedRunsAreRuns, OutputsAreCertified};
 ghost use Rattle.certificate_laws.specs.Worked.{HasTwoOutputs, SupportsItself};
 
@@ -16,6 +21,12 @@ pub fn outputs_law()
 /// a run of the program, stratified or not.
 pub fn runs_law()
     ensures { CertifiedRunsAreRuns }
+{}
+
+/// Where the walk along the numbers ends with the output and no number is left out, they are a certificate; of a certificate
+/// nothing is wrong; and of no numbers two things are the first that is wrong.
+pub fn reasons_law()
+    ensures { (p : CoreProgram) (ls : List Leaf) (i v : StoreMap) (numbers : List ℕ) → HasExactReasons p ls i v numbers }
 {}
 
 /// What the definitions say of two small programs: one has two outputs on one input, with a

@@ -5,4 +5,4 @@
 
 mod laws;
 
-pub use laws::{certified_law, outputs_law, runs_law, worked_law};
+pub use laws::{certified_law, outputs_law, reasons_law, runs_law, worked_law};

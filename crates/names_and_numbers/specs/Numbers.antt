@@ -35,3 +35,7 @@ value_of_number (b ∷ bs) = if is_minus b then neg_ℤ (pos (digits_value 10 bs
 -- the value of the number that the bytes are, if they are one that is not too long
 abbrev pub number_of_text : List ℕ → Option ℤ
 number_of_text bytes = if are_few_digits (digits_of bytes) then Some (value_of_number bytes) else None
+
+-- the value of the digits that the bytes are, if they are one to nine digits
+abbrev pub natural_of_text : List ℕ → Option ℕ
+natural_of_text bytes = if are_few_digits bytes then Some (digits_value 10 bytes) else None

@@ -14,4 +14,4 @@ pub use laws::limits_law;
 pub use letters::{digits_len, is_digit, is_letter, is_word_byte, word_len};
 pub use limits::{LONGEST_NAME, MOST_DIGITS};
 pub use names::is_name;
-pub use numbers::{digits_of, number_value, read_number};
+pub use numbers::{digits_of, number_value, read_natural, read_number};

@@ -1,10 +1,10 @@
 // Numbers: digits, or a minus and digits.
-ghost use Rattle.std.specs.Prelude.{◌≡◌, ◌≤◌, ◌<◌, ◌^◌, length, nat_abs, true};
+ghost use Rattle.std.specs.Prelude.{◌≡◌, ◌≤◌, ◌<◌, ◌^◌, length, nat_abs, true, IfSome};
 ghost use Rattle.std.specs.List.{list_all};
 ghost use Rattle.std.specs.Str.Parse.{digits_value};
 ghost use Rattle.names_and_numbers.specs.Limits.{most_digits};
 ghost use Rattle.names_and_numbers.specs.Names.{is_digit};
-ghost use Rattle.names_and_numbers.specs.Numbers.{are_digits, are_few_digits, digits_of, is_number_text, value_of_number, number_of_text};
+ghost use Rattle.names_and_numbers.specs.Numbers.{are_digits, are_few_digits, digits_of, is_number_text, natural_of_text, value_of_number, number_of_text};
 
 use crate::letters::is_digit;
 use crate::limits::MOST_DIGITS;
@@ -68,6 +68,18 @@ pub fn read_number(bytes: &[u8]) -> Option<i64>
 {
     if are_few_digits(digits_of(bytes)) {
         Some(number_value(bytes))
+    } else {
+        None
+    }
+}
+
+/// The number that the bytes write, if they are one to [`MOST_DIGITS`] digits.
+pub fn read_natural(bytes: &[u8]) -> Option<u32>
+    ensures value { result ≡ natural_of_text bytes.now }
+    ensures bound { IfSome result (λ n. n < 10 ^ 9) }
+{
+    if are_few_digits(bytes) {
+        Some(digits_value(bytes))
     } else {
         None
     }

@@ -47,3 +47,17 @@ fn a_number_has_its_value(rt: HostRuntime) {
         assert_eq!(rt; read_number(bytes), None, "{bytes:?}");
     }
 }
+
+#[test]
+fn a_number_of_digits_alone_has_no_sign(rt: HostRuntime) {
+    for (bytes, value) in [
+        (b"0".as_slice(), Some(0)),
+        (b"007".as_slice(), Some(7)),
+        (b"999999999".as_slice(), Some(999_999_999)),
+        (b"".as_slice(), None),
+        (b"-0".as_slice(), None),
+        (b"1000000000".as_slice(), None),
+    ] {
+        assert_eq!(rt; read_natural(bytes), value, "{bytes:?}");
+    }
+}

@@ -23,7 +23,7 @@ use Rattle.names_and_numbers.proofs.Printed.{decimal_digits, no_minus, number_of
 use Rattle.token_system.specs.Texts.{text_of, written_of, alone, at_least, at_most, IsTail, IsTokenText, off, clash, plain}
 use Rattle.token_system.proofs.Alike.{true_false}
 
-few_decimal : (n : ℕ) → n < 10 ^ 9 → are_few_digits (decimal n) ≡ true
+pub few_decimal : (n : ℕ) → n < 10 ^ 9 → are_few_digits (decimal n) ≡ true
 few_decimal n lt = both_true (are_digits (decimal n)) (nat_le (length (decimal n)) most_digits) (decimal_digits n (omega arith)) (at_most (length (decimal n)) (length-decimal-le 9 n (omega arith) lt (omega arith)))
   where
     at_most : (m : ℕ) → m ≤ 9 → nat_le m 9 ≡ true

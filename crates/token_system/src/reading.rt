@@ -63,7 +63,7 @@ fn named(bytes: &[u8]) -> Result<Written, Bad>
     if !is_name(name) {
         return Err(Bad);
     }
-    match tail(rest) {
+    match read_tail(rest) {
         Some((first, second)) => Ok(Written {
             name_start: 0,
             name_end,
@@ -74,8 +74,8 @@ fn named(bytes: &[u8]) -> Result<Written, Bad>
     }
 }
 
-// What follows the name: nothing, or a relation and a number.
-fn tail(rest: &[u8]) -> Option<(Token, Option<Token>)>
+/// What follows a name in a token's text: nothing, or a relation and a number. It makes one token, or the two of `=3`.
+pub fn read_tail(rest: &[u8]) -> Option<(Token, Option<Token>)>
     ensures read { IfSome result (λ tokens. IsTail rest.now tokens.0 tokens.1) }
     ensures bad { IsNone result → (first : Token) (second : Option Token)
         → ¬ (IsTail rest.now first second) }

@@ -32,7 +32,7 @@ span-onto : (b : ℕ) (parts : List (List ℕ)) (n : ℕ) → span parts ≡ n +
 span-onto b [] n e = absurd (omega arith)
 span-onto b (part ∷ parts) n e = omega arith
 
-span-split : (line : List ℕ) → span (slice_split is_blank line) ≡ length line + 1
+pub span-split : (line : List ℕ) → span (slice_split is_blank line) ≡ length line + 1
 span-split [] = omega arith
 span-split (b ∷ line) = go (is_blank b) (span-split line)
   where

@@ -1,0 +1,107 @@
+-- The name of a local cell reads back as it was written, and its numbers are read one after the other.
+use Rattle.std.proofs.Common.{◌≡◌, ℕ, ◌+◌, ◌<◌, ◌≤◌, ◌^◌, Bool, true, false, cond, List, [], ◌∷◌, ◌++◌, length, drop, refl, sym, ap, ◌∙◌, subst, append_assoc, add-one, drop-cons, arith}
+use Rattle.std.specs.Prelude.{All, decimal, flat_map, codes, Option, Some, None, get_or}
+use Rattle.std.specs.List.{slice_split, list_all}
+use Rattle.std.specs.Str.Parse.{digits_value}
+use Rattle.std.proofs.lemmas.Bool.{eqb-true}
+use Rattle.std.proofs.lemmas.Fmt.{decimal_is_IsNumeral}
+use Rattle.std.proofs.lemmas.List.{append-nil, drop_all, length_push}
+use Rattle.std.proofs.lemmas.List.Splits.{slice_split_none, slice_split_at}
+use Rattle.names_and_numbers.specs.Names.{is_digit}
+use Rattle.names_and_numbers.specs.Numbers.{natural_of_text, are_digits}
+use Rattle.names_and_numbers.proofs.Bools.{and_left, and_right}
+use Rattle.names_and_numbers.proofs.Printed.{decimal_digits}
+use Rattle.token_system.proofs.ReadBack.{few_decimal}
+use Rattle.agent_core.specs.Strata.{Each}
+use Rattle.agent_laws.proofs.Eachs.{all_each, each_all}
+use Rattle.certificate_text.specs.LocalNames.{is_dot, number_before, naturals_of, numbered_name}
+use Rattle.certificate_text.specs.Laws.{NamesReadBack}
+
+-- NUMBERS THAT ARE WRITTEN
+
+-- a number reads back as it was written
+pub natural-decimal : (n : ℕ) → n < 10 ^ 9 → natural_of_text (decimal n) ≡ Some n
+natural-decimal n lt =
+    ap (λ b. cond b (Some (digits_value 10 (decimal n))) None) (few_decimal n lt) ∙ ap Some (decimal_is_IsNumeral n (omega arith)).1
+
+-- no digit is a dot
+digit_no_dot : (b : ℕ) → is_digit b ≡ true → is_dot b ≡ false
+digit_no_dot b d = go (is_dot b) refl
+  where
+    go : (t : Bool) → is_dot b ≡ t → t ≡ false
+    go false e = refl
+    go true e = let w : false ≡ true = ap is_digit (sym (eqb-true b 46 e)) ∙ d in absurd (cc)
+
+digits_no_dot : (ds : List ℕ) → list_all is_digit ds ≡ true → Each (λ b. is_dot b ≡ false) ds
+digits_no_dot [] h = tt
+digits_no_dot (d ∷ ds) h = (digit_no_dot d (and_left (is_digit d) (list_all is_digit ds) h), digits_no_dot ds (and_right (is_digit d) (list_all is_digit ds) h))
+
+numeral_no_dot : (ds : List ℕ) → are_digits ds ≡ true → All (λ b. is_dot b ≡ false) ds
+numeral_no_dot [] h = each_all (λ b. is_dot b ≡ false) [] tt
+numeral_no_dot (d ∷ ds) h = each_all (λ b. is_dot b ≡ false) (d ∷ ds) (digits_no_dot (d ∷ ds) h)
+
+decimal_no_dot : (n : ℕ) → n < 10 ^ 9 → All (λ b. is_dot b ≡ false) (decimal n)
+decimal_no_dot n lt = numeral_no_dot (decimal n) (decimal_digits n (omega arith))
+
+-- numbers with a dot before each but the first
+numbers-back : (n : ℕ) (ns : List ℕ) → n < 10 ^ 9 → Each (λ m. m < 10 ^ 9) ns → naturals_of (slice_split is_dot (decimal n ++ flat_map (λ m. codes "." ++ decimal m) ns)) ≡ Some (n ∷ ns)
+numbers-back n [] lt small =
+    ap (λ (text : List ℕ). naturals_of (slice_split is_dot text)) (append-nil (decimal n))
+    ∙ ap naturals_of (slice_split_none is_dot (decimal n) (decimal_no_dot n lt))
+    ∙ ap (λ o. number_before o (Some [])) (natural-decimal n lt)
+numbers-back n (m ∷ ns) lt small =
+    ap naturals_of (slice_split_at is_dot (decimal n) 46 (decimal m ++ flat_map (λ m. codes "." ++ decimal m) ns) (decimal_no_dot n lt) refl)
+    ∙ ap (λ o. number_before o (naturals_of (slice_split is_dot (decimal m ++ flat_map (λ m. codes "." ++ decimal m) ns)))) (natural-decimal n lt)
+    ∙ ap (λ o. number_before (Some n) o) (numbers-back m ns small.0 small.1)
+
+pub names_law : NamesReadBack
+names_law node births lt small = ap numbered_name (numbers-back node births lt (all_each (λ m. m < 10 ^ 9) births small))
+
+-- NUMBERS THAT ARE READ
+
+-- numbers before those of later texts
+abbrev pub numbers_before : List ℕ → Option (List ℕ) → Option (List ℕ)
+numbers_before ns None = None
+numbers_before ns (Some later) = Some (ns ++ later)
+
+-- the texts are those of these numbers, and then those that are left
+abbrev pub ReadUpTo : List (List ℕ) → List ℕ → List (List ℕ) → Type 0
+ReadUpTo all read rest = naturals_of all ≡ numbers_before read (naturals_of rest)
+
+pub read-none : (all : List (List ℕ)) → ReadUpTo all [] all
+read-none all = go (naturals_of all)
+  where
+    go : (o : Option (List ℕ)) → o ≡ numbers_before [] o
+    go None = refl
+    go (Some ns) = refl
+
+module _ (all : List (List ℕ)) (read : List ℕ) (text : List ℕ) (rest : List (List ℕ)) (r : ReadUpTo all read (text ∷ rest)) where
+  -- one more
+  pub read-more : (n : ℕ) → natural_of_text text ≡ Some n → ReadUpTo all (read ++ n ∷ []) rest
+  read-more n e = r ∙ ap (λ o. numbers_before read (number_before o (naturals_of rest))) e ∙ go (naturals_of rest)
+    where
+      go : (o : Option (List ℕ)) → numbers_before read (number_before (Some n) o) ≡ numbers_before (read ++ n ∷ []) o
+      go None = refl
+      go (Some ns) = ap Some (sym (append_assoc read (n ∷ []) ns))
+
+  -- a text that is no number
+  pub read-stopped : natural_of_text text ≡ None → naturals_of all ≡ None
+  read-stopped e = r ∙ ap (λ o. numbers_before read (number_before o (naturals_of rest))) e
+
+pub read-all : (all : List (List ℕ)) (read : List ℕ) → ReadUpTo all read [] → naturals_of all ≡ Some read
+read-all all read r = r ∙ ap Some (append-nil read)
+
+-- the text that comes next
+pub read-next : (all : List (List ℕ)) (read : List ℕ) (k : ℕ) (text : List ℕ) → (k < length all) × (text ≡ get_or all k text) → ReadUpTo all read (drop k all) → ReadUpTo all read (text ∷ drop (k + 1) all)
+read-next all read k text (lt, is) r =
+    let parts : drop k all ≡ get_or all k text ∷ drop (k + 1) all = rw add-one (drop-cons all k text lt) in
+    let here : ReadUpTo all read (get_or all k text ∷ drop (k + 1) all) = subst (ReadUpTo all read) parts r in
+    subst (λ (x : List ℕ). ReadUpTo all read (x ∷ drop (k + 1) all)) (sym is) here
+
+-- one text more was read
+pub read-pushed : (all : List (List ℕ)) (read : List ℕ) {X : Type 0} (xs : List X) (x : X) → ReadUpTo all read (drop (length xs + 1) all) → ReadUpTo all read (drop (length (xs ++ x ∷ [])) all)
+read-pushed all read xs x r = subst (λ (k : ℕ). ReadUpTo all read (drop k all)) (sym (length_push xs x)) r
+
+-- no text is left
+pub read-past : (all : List (List ℕ)) (read : List ℕ) (k : ℕ) → length all ≤ k → ReadUpTo all read (drop k all) → naturals_of all ≡ Some read
+read-past all read k over r = read-all all read (subst (ReadUpTo all read) (drop_all k all over) r)

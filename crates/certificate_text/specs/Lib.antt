@@ -1,0 +1,5 @@
+pub mod Limits
+pub mod LocalNames
+pub mod LocalTokens
+pub mod RunLines
+pub mod Laws

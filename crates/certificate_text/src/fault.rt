@@ -1,0 +1,25 @@
+ghost use Rattle.std.specs.Prelude.{◌≡◌};
+ghost use Rattle.certificate_text.specs.declared.fault.EntryLineFault.TheVariants.{Memory};
+
+use std::alloc::AllocError;
+use thiserror::Error;
+
+/// Why a line is no part of an entry.
+#[derive(Clone, Copy, Debug, PartialEq, Eq, Error)]
+pub enum EntryLineFault {
+    /// The piece at this offset, the first that does not read, is bad. A line without a piece is bad at 0, and one of more than
+    /// `LONGEST_ENTRY_LINE` bytes at that number.
+    #[error("bad at offset {offset}")]
+    Bad { offset: u32 },
+    /// An allocation failed.
+    #[error("out of memory")]
+    Memory,
+}
+
+impl From<AllocError> for EntryLineFault {
+    ghost from_gives = { λ _ e. e ≡ Memory };
+
+    fn from(_error: AllocError) -> EntryLineFault {
+        EntryLineFault::Memory
+    }
+}

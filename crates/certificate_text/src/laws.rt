@@ -1,0 +1,21 @@
+//! Laws of the texts. Each is a function that computes nothing, and its contract is the law.
+ghost use Rattle.std.specs.Prelude.{◌≡◌};
+ghost use Rattle.certificate_text.specs.Laws.{NamesReadBack, RunsReadBack};
+ghost use Rattle.certificate_text.specs.Limits.{longest_entry_line};
+
+use crate::limits::LONGEST_ENTRY_LINE;
+
+/// The name of a local cell reads back as it was written, where its numbers have nine digits at most.
+pub fn names_law()
+    ensures { NamesReadBack }
+{}
+
+/// A list of leaves reads back as it was written, where its numbers have nine digits at most and its line is not too long.
+pub fn runs_law()
+    ensures { RunsReadBack }
+{}
+
+/// The limit of the code is the one that the definitions name.
+pub fn limits_law()
+    ensures { LONGEST_ENTRY_LINE ≡ longest_entry_line }
+{}
