@@ -18,7 +18,7 @@ use Rattle.agent_laws.specs.LeafRests.{asked, free}
 use Rattle.certificate_laws.specs.Justified.{is_tell, after_leaf, IsJustified}
 use Rattle.certificate_laws.specs.Certificates.{Leads}
 use Rattle.certificate_laws.specs.LeafNumbers.{StandAt, AreDistinct, AreListed, IsCertificate}
-use Rattle.certificate_laws.specs.Reasons.{is_justified, is_listed, Walk, Stops, Ends, may_follow, after_number, walk, IsFirstDifference, IsUnlisted, IsLeastUnlisted, Wrong, Unjustified, NoJoin, NotListed, IsFirstWrong, HasExactReasons}
+use Rattle.certificate_laws.specs.Reasons.{is_justified, is_listed, Walk, Stops, Ends, may_follow, told_after, walk, IsFirstDifference, IsUnlisted, IsLeastUnlisted, Wrong, Unjustified, NoJoin, NotListed, IsFirstWrong, HasExactReasons}
 
 -- WHETHER A NUMBER IS LISTED
 
@@ -66,7 +66,7 @@ module _ (p : CoreProgram) (ls : List Leaf) (v : StoreMap) where
   walk-ends before [] (l ∷ run) u w at leads once apart = absurd at
   walk-ends before (n ∷ ns) [] u w at leads once apart = absurd at
   walk-ends before (n ∷ ns) (l ∷ run) u w at leads once apart =
-      ap (λ o. cond (may_follow p u v before n o) (walk p ls v (n ∷ before) ns (after_number p o u)) (Stops n)) at.0
+      ap (λ o. cond (may_follow p u v before n o) (walk p ls v (n ∷ before) ns (told_after p o u)) (Stops n)) at.0
       ∙ ap (λ b. cond b (walk p ls v (n ∷ before) ns (after_leaf p l u)) (Stops n)) (both (not (is_listed n before)) (is_justified p u v l) (new (is_listed n before) refl) (justified-test u l leads.0))
       ∙ walk-ends (n ∷ before) ns run (after_leaf p l u) w at.1 leads.1 once.1 later
     where
@@ -117,7 +117,7 @@ module _ (p : CoreProgram) (ls : List Leaf) (v : StoreMap) where
       tested more l at true f h = walked_on before n ns l u w at f (more (after_leaf p l u) h)
       tested more l at false f h = absurd (stopped h)
 
-      go : WalkedOn (n ∷ before) ns w → (o : Option Leaf) → slice_get ls n ≡ o → cond (may_follow p u v before n o) (walk p ls v (n ∷ before) ns (after_number p o u)) (Stops n) ≡ Ends w → Walked before (n ∷ ns) u w
+      go : WalkedOn (n ∷ before) ns w → (o : Option Leaf) → slice_get ls n ≡ o → cond (may_follow p u v before n o) (walk p ls v (n ∷ before) ns (told_after p o u)) (Stops n) ≡ Ends w → Walked before (n ∷ ns) u w
       go more None at h = absurd (stopped h)
       go more (Some l) at h = tested more l at (not (is_listed n before) && is_justified p u v l) refl h
 

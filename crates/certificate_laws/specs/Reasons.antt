@@ -30,16 +30,17 @@ abbrev pub may_follow : CoreProgram → StoreMap → StoreMap → List ℕ → �
 may_follow p u v before n None = false
 may_follow p u v before n (Some l) = not (is_listed n before) && is_justified p u v l
 
-abbrev pub after_number : CoreProgram → Option Leaf → StoreMap → StoreMap
-after_number p None u = u
-after_number p (Some l) u = after_leaf p l u
+-- what is told so far after the leaf of this number, where there is one
+abbrev pub told_after : CoreProgram → Option Leaf → StoreMap → StoreMap
+told_after p None u = u
+told_after p (Some l) u = after_leaf p l u
 
 -- the walk along the numbers, where u is told so far, by the numbers before them
 abbrev pub walk : CoreProgram → List Leaf → StoreMap → List ℕ → List ℕ → StoreMap → Walk
 walk p ls v before [] u = Ends u
 walk p ls v before (n ∷ numbers) u =
     if may_follow p u v before n (slice_get ls n)
-    then walk p ls v (n ∷ before) numbers (after_number p (slice_get ls n) u)
+    then walk p ls v (n ∷ before) numbers (told_after p (slice_get ls n) u)
     else Stops n
 
 -- the first name, in the order of names, of which the two stores keep different values

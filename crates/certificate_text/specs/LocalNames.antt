@@ -30,6 +30,6 @@ numbered_name (Some (node ∷ births)) = Some (Local node births)
 numbered_name _ = None
 
 -- the name that the bytes are, if they are `@` and then numbers with a dot between each two
-abbrev pub local_name : List ℕ → Option CellName
-local_name [] = None
-local_name (b ∷ rest) = if b == 64 then numbered_name (naturals_of (slice_split is_dot rest)) else None
+abbrev pub local_name_of : List ℕ → Option CellName
+local_name_of [] = None
+local_name_of (b ∷ rest) = if b == 64 then numbered_name (naturals_of (slice_split is_dot rest)) else None

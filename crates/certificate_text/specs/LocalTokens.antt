@@ -4,7 +4,7 @@ use Rattle.token_system.specs.declared.cell.Token.{Token}
 use Rattle.token_system.specs.declared.cell.Token.TheVariants.{Off, Clash}
 use Rattle.token_system.specs.declared.name.CellName.{CellName}
 use Rattle.token_system.specs.Texts.{IsTail}
-use Rattle.certificate_text.specs.LocalNames.{local_name}
+use Rattle.certificate_text.specs.LocalNames.{local_name_of}
 
 -- > < =
 abbrev pub begins_tail : ℕ → Bool
@@ -16,6 +16,6 @@ name_end bytes = unwrap_or (position begins_tail bytes) (length bytes)
 
 -- the bytes are the text of a token of the local cell of this name, and mean these tokens
 pub data IsLocalTokenText (bytes : List ℕ) (name : CellName) (first : Token) (second : Option Token) : Type 0 where
-  off : (text : List ℕ) → bytes ≡ codes "!" ++ text → local_name text ≡ Some name → first ≡ Off → second ≡ None → IsLocalTokenText bytes name first second
-  clash : (text : List ℕ) → bytes ≡ codes "#" ++ text → local_name text ≡ Some name → first ≡ Clash → second ≡ None → IsLocalTokenText bytes name first second
-  plain : local_name (take (name_end bytes) bytes) ≡ Some name → IsTail (drop (name_end bytes) bytes) first second → IsLocalTokenText bytes name first second
+  off : (text : List ℕ) → bytes ≡ codes "!" ++ text → local_name_of text ≡ Some name → first ≡ Off → second ≡ None → IsLocalTokenText bytes name first second
+  clash : (text : List ℕ) → bytes ≡ codes "#" ++ text → local_name_of text ≡ Some name → first ≡ Clash → second ≡ None → IsLocalTokenText bytes name first second
+  plain : local_name_of (take (name_end bytes) bytes) ≡ Some name → IsTail (drop (name_end bytes) bytes) first second → IsLocalTokenText bytes name first second

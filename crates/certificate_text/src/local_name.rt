@@ -1,7 +1,7 @@
 //! The names of local cells, as certificates have them: `@3.0.1`.
 ghost use Rattle.std.specs.Prelude.{◌≡◌, ◌++◌, ◌∷◌, None, Some, IfOk, IfSome, IsNone, OnErr, OnOk, decimal};
 ghost use Rattle.std.specs.List.{slice_split};
-ghost use Rattle.certificate_text.specs.LocalNames.{is_dot, local_name, local_text, naturals_of};
+ghost use Rattle.certificate_text.specs.LocalNames.{is_dot, local_name_of, local_text, naturals_of};
 ghost use Rattle.trace_text.specs.Writing.{Grows};
 
 use itoa::Buffer;
@@ -27,7 +27,7 @@ fn read_numbers(alloc: Global, text: &[u8]) -> Result<Option<Vec<u32>>, Memory>
 /// Reads the name of a local cell: the name that the bytes are, whether or not a program has such a cell. A number has
 /// up to nine digits, and may begin with zeros; the name as a whole may have any length.
 pub fn read_name(alloc: Global, bytes: &[u8]) -> Result<Option<CellName>, Memory>
-    ensures { IfOk result (λ found. found ≡ local_name bytes.now) }
+    ensures { IfOk result (λ found. found ≡ local_name_of bytes.now) }
 {
     let Some((b'@', rest)) = bytes.split_first() else {
         return Ok(None);

@@ -3,7 +3,7 @@ ghost use Rattle.std.specs.Prelude.{◌≡◌, ◌≤◌, None, Some, length, po
 ghost use Rattle.token_system.specs.declared.cell.Token.{Token};
 ghost use Rattle.token_system.specs.declared.name.CellName.{CellName};
 ghost use Rattle.token_system.specs.Texts.{IsTail};
-ghost use Rattle.certificate_text.specs.LocalNames.{local_name};
+ghost use Rattle.certificate_text.specs.LocalNames.{local_name_of};
 ghost use Rattle.certificate_text.specs.LocalTokens.{begins_tail, name_end, IsLocalTokenText};
 
 use crate::local_name::read_name;
@@ -21,8 +21,8 @@ pub struct LocalToken {
 /// The token of the cell of this name, if the bytes are one.
 fn marked(alloc: Global, text: &[u8], token: Token) -> Result<Option<LocalToken>, Memory>
     ensures read { IfOk result (λ read. IfSome read (λ t.
-        (local_name text.now ≡ Some t.name) × (t.first ≡ token) × (t.second ≡ None))) }
-    ensures bad { IfOk result (λ read. IsNone read → local_name text.now ≡ None) }
+        (local_name_of text.now ≡ Some t.name) × (t.first ≡ token) × (t.second ≡ None))) }
+    ensures bad { IfOk result (λ read. IsNone read → local_name_of text.now ≡ None) }
 {
     match read_name(alloc, text)? {
         Some(name) => Ok(Some(LocalToken {
@@ -59,7 +59,7 @@ fn name_len(bytes: &[u8]) -> usize
 fn named(alloc: Global, bytes: &[u8]) -> Result<Option<LocalToken>, Memory>
     ensures read { IfOk result (λ read. IfSome read (λ t. IsLocalTokenText bytes.now t.name t.first t.second)) }
     ensures bad { IfOk result (λ read. IsNone read → (name : CellName) (first : Token) (second : Option Token)
-        → local_name (take (name_end bytes.now) bytes.now) ≡ Some name
+        → local_name_of (take (name_end bytes.now) bytes.now) ≡ Some name
         → ¬ (IsTail (drop (name_end bytes.now) bytes.now) first second)) }
 {
     let (text, rest) = bytes.split_at(name_len(bytes));
