@@ -77,7 +77,7 @@ fn a_run_line_lists_numbers_behind_its_word(rt: HostRuntime) -> Result<(), Fail>
 }
 
 #[test]
-fn the_first_bad_piece_of_a_run_line_decides(rt: HostRuntime) -> Result<(), Fail> {
+fn the_first_bad_field_of_a_run_line_decides(rt: HostRuntime) -> Result<(), Fail> {
     let alloc = rt.alloc();
     for (line, wanted) in [
         (b"".as_slice(), 0),

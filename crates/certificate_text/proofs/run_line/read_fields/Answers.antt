@@ -5,23 +5,23 @@ use Rattle.std.proofs.lemmas.Iterator.Splits.{YieldsList-from_slice_split}
 use Rattle.std.proofs.lemmas.Result.{err_from_is_err_and}
 use Rattle.trace_text.specs.Fields.{is_blank}
 use Rattle.trace_text.proofs.LineWalks.{fields_from, some_part, empty_part}
-use Rattle.certificate_text.proofs.RunTexts.{PiecesRead, read-start, read-skip, read-here, read-piece, read-at, read-past, read-pushed}
+use Rattle.certificate_text.proofs.RunTexts.{FieldsRead, read-start, read-skip, read-here, read-field, read-at, read-past, read-pushed}
 use Rattle.certificate_text.specs.RunLines.{IsFaultOf}
-use Rattle.certificate_text.proofs.run_line.read_pieces.Goals as goal
-use Rattle.certificate_text.proofs.run_line.read_pieces.Goals.{then-not-is_empty+in_ok-read_piece, else-not-is_empty}
+use Rattle.certificate_text.proofs.run_line.read_fields.Goals as goal
+use Rattle.certificate_text.proofs.run_line.read_fields.Goals.{then-not-is_empty+in_ok-read_field, else-not-is_empty}
 
 pub loop-part-init : goal.loop-part-init
 loop-part-init c = rw (c.new.ensures.items) (read-start c.args.line.now)
 
-pub returns-in_err-read_piece-clause-bad : goal.returns-in_err-read_piece-clause-bad
-returns-in_err-read_piece-clause-bad c =
+pub returns-in_err-read_field-clause-bad : goal.returns-in_err-read_field-clause-bad
+returns-in_err-read_field-clause-bad c =
     let turn = YieldsList-turn (YieldsList-from_slice_split _ is_blank c.args.line.now (cc) (cc) (cc) (λ x r q k. search (rules, tests))) c.loop-part.yielded _ c.loop-part.yielded_by _ _ c.in-Some.part c.in-Some.is c.next.ensures.steps in
     let rest = drop (length c.loop-part.yielded + 1) (slice_split is_blank c.args.line.now) in
     let here = read-at c.args.line.now (slice_split is_blank c.args.line.now) (length c.loop-part.yielded) c.loop-part.offset c.loop-part.run.worded c.loop-part.run.numbers.items c.in-Some.part.now turn c.loop-part.invariant in
     let failed = err_from_is_err_and c.from_residual.result c.from_residual.ensures.1 in
     let same = read-here c.args.line.now c.in-Some.part.now rest c.loop-part.offset c.loop-part.run.worded c.loop-part.run.numbers.items here (some_part c.in-Some.part.now c.is_empty.result c.is_empty.ensures c.if-not-is_empty.true) in
     rw (failed.1, failed.2)
-    (subst (λ said. IsFaultOf said c.in_err-read_piece.field-0.0) (sym same) (c.in_err-read_piece.ensures.bad (fields_from (c.loop-part.offset + (length c.in-Some.part.now + 1)) rest)))
+    (subst (λ said. IsFaultOf said c.in_err-read_field.field-0.0) (sym same) (c.in_err-read_field.ensures.bad (fields_from (c.loop-part.offset + (length c.in-Some.part.now + 1)) rest)))
 
 pub loop-part-preserved : goal.loop-part-preserved
 loop-part-preserved c =
@@ -31,12 +31,12 @@ loop-part-preserved c =
     let here = read-at c.args.line.now all (length c.loop-part.yielded) c.loop-part.offset c.loop-part.run.worded c.loop-part.run.numbers.items c.in-Some.part.now turn c.loop-part.invariant in
     read-pushed c.args.line.now all c.loop-part.yielded c.in-Some.part (c.loop-part.offset + (length c.in-Some.part.now + 1)) c.if-not-is_empty.run.worded c.if-not-is_empty.run.numbers.items
     (elim c.if-not-is_empty.branch [
-      | then-not-is_empty+in_ok-read_piece w ↦
-          subst (λ run. PiecesRead c.args.line.now rest (c.loop-part.offset + (length c.in-Some.part.now + 1)) run.worded run.numbers.items) (sym w.run-is)
-          (read-piece c.args.line.now c.in-Some.part.now rest c.loop-part.offset c.loop-part.run.worded c.loop-part.run.numbers.items here
-          (some_part c.in-Some.part.now c.is_empty.result c.is_empty.ensures w.if-not-is_empty.true) w.read_piece.new.self.worded w.read_piece.new.self.numbers.items w.in_ok-read_piece.ensures.read)
+      | then-not-is_empty+in_ok-read_field w ↦
+          subst (λ run. FieldsRead c.args.line.now rest (c.loop-part.offset + (length c.in-Some.part.now + 1)) run.worded run.numbers.items) (sym w.run-is)
+          (read-field c.args.line.now c.in-Some.part.now rest c.loop-part.offset c.loop-part.run.worded c.loop-part.run.numbers.items here
+          (some_part c.in-Some.part.now c.is_empty.result c.is_empty.ensures w.if-not-is_empty.true) w.read_field.new.self.worded w.read_field.new.self.numbers.items w.in_ok-read_field.ensures.read)
       | else-not-is_empty w ↦
-          subst (λ run. PiecesRead c.args.line.now rest (c.loop-part.offset + (length c.in-Some.part.now + 1)) run.worded run.numbers.items) (sym w.run-is)
+          subst (λ run. FieldsRead c.args.line.now rest (c.loop-part.offset + (length c.in-Some.part.now + 1)) run.worded run.numbers.items) (sym w.run-is)
           (read-skip c.args.line.now c.in-Some.part.now rest c.loop-part.offset c.loop-part.run.worded c.loop-part.run.numbers.items here
           (empty_part c.in-Some.part.now c.is_empty.result c.is_empty.ensures w.if-not-is_empty.false))
     ])
