@@ -1,3 +1,4 @@
 pub mod NameTexts
 pub mod RunTexts
 pub mod LocalTokenTexts
+pub mod OutTexts

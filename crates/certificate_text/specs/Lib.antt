@@ -1,5 +1,7 @@
 pub mod Limits
 pub mod LocalNames
 pub mod LocalTokens
+pub mod InLines
+pub mod OutLines
 pub mod RunLines
 pub mod Laws

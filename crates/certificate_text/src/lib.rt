@@ -1,18 +1,24 @@
-//! The texts of certificates: the names of local cells and their tokens, and the lines that list the leaves of an instant.
+//! The texts of certificates: the names of local cells and their tokens, the lines of inputs and outputs, and the lines that list the
+//! leaves of an instant.
 #![tactic(auto)]
 
 mod fault;
+mod in_line;
 mod laws;
 mod limits;
 mod local_name;
 mod local_token;
+mod local_value;
+mod out_line;
 mod run_line;
 #[cfg(test)]
 mod tests;
 
 pub use fault::EntryLineFault;
+pub use in_line::write_in;
 pub use laws::{limits_law, names_law, runs_law};
 pub use limits::LONGEST_ENTRY_LINE;
 pub use local_name::{read_name, write_name};
 pub use local_token::{LocalToken, read_local_token};
+pub use out_line::write_out;
 pub use run_line::{read_run, write_run};
