@@ -2,3 +2,4 @@ pub mod NameTexts
 pub mod RunTexts
 pub mod LocalTokenTexts
 pub mod OutTexts
+pub mod InputWalks

@@ -2,6 +2,8 @@
 //! leaves of an instant.
 #![tactic(auto)]
 
+mod blanks;
+mod declared_field;
 mod fault;
 mod in_line;
 mod laws;
@@ -15,7 +17,7 @@ mod run_line;
 mod tests;
 
 pub use fault::EntryLineFault;
-pub use in_line::write_in;
+pub use in_line::{read_in, write_in};
 pub use laws::{limits_law, names_law, runs_law};
 pub use limits::LONGEST_ENTRY_LINE;
 pub use local_name::{read_name, write_name};

@@ -1,22 +1,17 @@
 //! The `run` line of an entry: which leaves tell, in their order.
 ghost use Rattle.std.specs.Prelude.{◌≡◌, ◌≤◌, ◌++◌, ◌∷◌, [], List, Ok, length, IfErr, IfOk, OnErr, OnOk, decimal};
-ghost use Rattle.trace_text.specs.Fields.{Field, fields, is_blank as is_blank_byte};
+ghost use Rattle.trace_text.specs.Fields.{Field, fields};
 ghost use Rattle.trace_text.specs.Writing.{Grows};
 ghost use Rattle.certificate_text.specs.Limits.{longest_entry_line};
 ghost use Rattle.certificate_text.specs.RunLines.{left_to_read, run_of_line, run_text, numbers_behind_run, IsFaultOf};
 
+use crate::blanks::is_blank;
 use crate::fault::EntryLineFault;
 use crate::limits::LONGEST_ENTRY_LINE;
 use itoa::Buffer;
 use names_and_numbers::read_natural;
 use std::alloc::Global;
 use token_system::Memory;
-
-fn is_blank(byte: u8) -> bool
-    ensures { result ≡ is_blank_byte byte }
-{
-    byte == b' ' || byte == b'\t' || byte == b'\r'
-}
 
 /// What was read of a line: whether its word was, and the numbers behind it.
 #[derive(Debug, Drop)]

@@ -2,8 +2,8 @@
 ghost use Rattle.token_system.specs.Values.{IsProper};
 
 use crate::{
-    EntryLineFault, read_local_token, read_name, read_run, write_in, write_name, write_out,
-    write_run,
+    EntryLineFault, read_in, read_local_token, read_name, read_run, write_in, write_name,
+    write_out, write_run,
 };
 use agent_core::{CellDecl, Name, Node, Program};
 use std::alloc::Global;
@@ -85,6 +85,51 @@ fn an_in_line_is_the_store_line_behind_its_word(rt: HostRuntime) -> Result<(), F
     input.keep(CellName::Declared(0), signal(), Value::Clash)?;
     write_in(&program, &input, &mut text)?;
     assert_eq!(rt; text.as_slice(), b"in\nin #s x>=3".as_slice());
+    Ok(())
+}
+
+#[test]
+fn an_in_line_is_read_as_what_its_tokens_tell(rt: HostRuntime) -> Result<(), Fail> {
+    let alloc = rt.alloc();
+    let program = two_declared_and_two_local(alloc)?;
+    // longer than a line of a trace
+    let mut long = b"in".to_vec(alloc)?;
+    long.extend_from_slice(&vec![in alloc; b' '; 40_000]?)?;
+    long.push(b's')?;
+    for (line, wanted) in [
+        (b"in".as_slice(), b"in".as_slice()),
+        (b" \tin\r x>=03 s ", b"in s x>=3"),
+        (b"in x=0 s !s x>=3", b"in #s #x"),
+        (long.as_slice(), b"in s"),
+    ] {
+        let input = read_in(alloc, &program, line)?;
+        let mut text = Vec::new(alloc);
+        write_in(&program, &input, &mut text)?;
+        assert_eq!(rt; text.as_slice(), wanted, "{line:?}");
+    }
+    Ok(())
+}
+
+#[test]
+fn the_first_bad_field_of_an_in_line_decides(rt: HostRuntime) -> Result<(), Fail> {
+    let alloc = rt.alloc();
+    let program = two_declared_and_two_local(alloc)?;
+    for (line, wanted) in [
+        (b"".as_slice(), 0),
+        (b" \r", 0),
+        (b"  out s", 2),
+        (b"s in", 0),
+        (b"in s y x", 5),
+        (b"in x s>=1", 3),
+        (b"in s  x>=", 6),
+        (b"in @0.0=1", 3),
+        (b"in in", 3),
+    ] {
+        match read_in(alloc, &program, line) {
+            Ok(_) => assert!(rt; false, "{line:?} is read"),
+            Err(fault) => assert_eq!(rt; fault, EntryLineFault::Bad { offset: wanted }, "{line:?}"),
+        }
+    }
     Ok(())
 }
 
