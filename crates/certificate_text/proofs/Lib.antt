@@ -3,3 +3,4 @@ pub mod RunTexts
 pub mod LocalTokenTexts
 pub mod OutTexts
 pub mod InputWalks
+pub mod InputLaws

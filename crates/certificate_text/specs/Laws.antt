@@ -1,6 +1,12 @@
 -- What is proved of the texts themselves. This project's own.
 use Rattle.std.specs.Prelude.{◌≡◌, ℕ, ◌<◌, ◌≤◌, ◌^◌, List, length, Some, Ok, All}
 use Rattle.token_system.specs.declared.name.CellName.TheVariants.{Local}
+use Rattle.token_system.specs.Stores.{StoreMap}
+use Rattle.agent_core.specs.Programs.{CoreProgram}
+use Rattle.agent_core.specs.Stores.{IsInput}
+use Rattle.agent_core.specs.WellFormed.{IsWellFormed}
+use Rattle.trace_text.specs.Laws.{HasOwnNames}
+use Rattle.certificate_text.specs.InLines.{in_line, GivesEntryInput, IsInputBadAt}
 use Rattle.certificate_text.specs.LocalNames.{local_text, local_name_of}
 use Rattle.certificate_text.specs.Limits.{longest_entry_line}
 use Rattle.certificate_text.specs.RunLines.{run_text, run_of_line}
@@ -12,3 +18,19 @@ NamesReadBack = (node : ℕ) (births : List ℕ) → node < 10 ^ 9 → All (λ b
 -- a list of numbers reads back as it was written, where each has nine digits at most and the line is not too long
 abbrev pub RunsReadBack : Type 0
 RunsReadBack = (numbers : List ℕ) → All (λ n. n < 10 ^ 9) numbers → length (run_text numbers) ≤ longest_entry_line → run_of_line (run_text numbers) ≡ Ok numbers
+
+-- the `in` line of an input gives that input, where the declared cells have names of their own
+abbrev pub InputsReadBack : Type 0
+InputsReadBack = (p : CoreProgram) (i : StoreMap) → IsWellFormed p → HasOwnNames p → IsInput p i → GivesEntryInput p (in_line p i) i
+
+-- what an `in` line gives is a store over the declared cells
+abbrev pub LinesGiveInputs : Type 0
+LinesGiveInputs = (p : CoreProgram) (line : List ℕ) (i : StoreMap) → GivesEntryInput p line i → IsInput p i
+
+-- an `in` line gives one input at most
+abbrev pub LinesGiveOneInput : Type 0
+LinesGiveOneInput = (p : CoreProgram) (line : List ℕ) (i j : StoreMap) → GivesEntryInput p line i → GivesEntryInput p line j → i ≡ j
+
+-- and one that gives an input is bad at no place
+abbrev pub GivenLinesAreGood : Type 0
+GivenLinesAreGood = (p : CoreProgram) (line : List ℕ) (i : StoreMap) (place : ℕ) → GivesEntryInput p line i → IsInputBadAt p line place → ⊥

@@ -1,6 +1,6 @@
 //! Laws of the texts. Each is a function that computes nothing, and its contract is the law.
 ghost use Rattle.std.specs.Prelude.{◌≡◌};
-ghost use Rattle.certificate_text.specs.Laws.{NamesReadBack, RunsReadBack};
+ghost use Rattle.certificate_text.specs.Laws.{GivenLinesAreGood, InputsReadBack, LinesGiveInputs, LinesGiveOneInput, NamesReadBack, RunsReadBack};
 ghost use Rattle.certificate_text.specs.Limits.{longest_entry_line};
 
 use crate::limits::LONGEST_ENTRY_LINE;
@@ -13,6 +13,15 @@ pub fn names_law()
 /// A list of leaves reads back as it was written, where its numbers have nine digits at most and its line is not too long.
 pub fn runs_law()
     ensures { RunsReadBack }
+{}
+
+/// The `in` line of an input gives that input back, where the declared cells have names of their own. A line gives one store
+/// over the declared cells at most, and is then bad nowhere.
+pub fn inputs_law()
+    ensures reads_back { InputsReadBack }
+    ensures input { LinesGiveInputs }
+    ensures one { LinesGiveOneInput }
+    ensures good { GivenLinesAreGood }
 {}
 
 /// The limit of the code is the one that the definitions name.
