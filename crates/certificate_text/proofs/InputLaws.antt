@@ -35,7 +35,7 @@ use Rattle.trace_text.proofs.Sayings.{say_all_fit, say_all_one, say_all-middle}
 use Rattle.certificate_text.specs.BadPlaces.{IsFirstUnread, no_field, other_word, later_field, long, unread}
 use Rattle.certificate_text.specs.InLines.{line_behind, SaysTokens, TellsBehindWord}
 use Rattle.certificate_text.specs.Laws.{InputsReadBack, LinesGiveInputs, LinesGiveOneInput, GivenLinesAreGood}
-use Rattle.certificate_text.proofs.RunTexts.{field_first, field_skipped}
+use Rattle.certificate_text.proofs.PartWalks.{field_first, field_skipped}
 
 -- ONE INPUT
 

@@ -1,4 +1,5 @@
 pub mod NameTexts
+pub mod PartWalks
 pub mod RunTexts
 pub mod LocalTokenTexts
 pub mod OutTexts

@@ -1,10 +1,10 @@
 -- The line of a list of numbers reads back as it was written, and is read field by field.
-use Rattle.std.proofs.Common.{◌≡◌, ℕ, ◌+◌, ◌<◌, ◌≤◌, ◌^◌, Bool, true, false, cond, List, [], ◌∷◌, ◌++◌, length, drop, get_or, refl, sym, ap, ◌∙◌, subst, append_assoc, add-one, drop-cons, arith}
+use Rattle.std.proofs.Common.{◌≡◌, ℕ, ◌+◌, ◌<◌, ◌^◌, Bool, true, false, cond, List, [], ◌∷◌, ◌++◌, length, refl, sym, ap, ◌∙◌, append_assoc, arith}
 use Rattle.std.specs.Prelude.{All, decimal, flat_map, codes, Some, Result, Ok, Err, nat_eq, nat_lt, ◌==◌}
 use Rattle.std.specs.List.{slice_split, list_all}
 use Rattle.std.specs.Cmp.Lexicographic.{pointwise}
 use Rattle.std.proofs.lemmas.Bool.{eqb-true}
-use Rattle.std.proofs.lemmas.List.{append-nil, drop_all, length_push}
+use Rattle.std.proofs.lemmas.List.{append-nil}
 use Rattle.std.proofs.lemmas.List.Splits.{slice_split_none, slice_split_at}
 use Rattle.names_and_numbers.specs.Names.{is_digit}
 use Rattle.names_and_numbers.specs.Numbers.{natural_of_text, are_digits}
@@ -13,11 +13,12 @@ use Rattle.names_and_numbers.proofs.Printed.{decimal_digits}
 use Rattle.agent_core.specs.Strata.{Each}
 use Rattle.agent_laws.proofs.Eachs.{all_each, each_all}
 use Rattle.trace_text.specs.Fields.{Field, fields, is_blank, is_some}
-use Rattle.trace_text.proofs.LineWalks.{span, span-split, fields_from}
+use Rattle.trace_text.proofs.LineWalks.{fields_from}
 use Rattle.certificate_text.specs.Limits.{longest_entry_line}
 use Rattle.certificate_text.specs.RunLines.{run_text, number_then, numbers_in, numbers_behind_run, numbers_then, left_to_read}
 use Rattle.certificate_text.specs.Laws.{RunsReadBack}
 use Rattle.certificate_text.proofs.NameTexts.{natural-decimal}
+use Rattle.certificate_text.proofs.PartWalks.{field_first}
 
 -- NUMBERS THAT ARE WRITTEN
 
@@ -51,14 +52,6 @@ decimal_no_blank n lt = numeral_no_blank (decimal n) (decimal_digits n (omega ar
 
 decimal_some : (n : ℕ) → n < 10 ^ 9 → is_some (decimal n) ≡ true
 decimal_some n lt = numeral_some (decimal n) (decimal_digits n (omega arith))
-
--- a part that is not empty is a field, and an empty one is none
-pub field_first : (offset : ℕ) (part : List ℕ) (rest : List (List ℕ)) → is_some part ≡ true
-    → fields_from offset (part ∷ rest) ≡ record { offset = offset; bytes = part } ∷ fields_from (offset + (length part + 1)) rest
-field_first offset part rest some = ap (λ b. cond b (record { offset = offset; bytes = part } ∷ fields_from (offset + (length part + 1)) rest) (fields_from (offset + (length part + 1)) rest)) some
-
-pub field_skipped : (offset : ℕ) (part : List ℕ) (rest : List (List ℕ)) → is_some part ≡ false → fields_from offset (part ∷ rest) ≡ fields_from (offset + (length part + 1)) rest
-field_skipped offset part rest none = ap (λ b. cond b (record { offset = offset; bytes = part } ∷ fields_from (offset + (length part + 1)) rest) (fields_from (offset + (length part + 1)) rest)) none
 
 -- numbers with a space before each but the first
 abbrev numbers_text : ℕ → List ℕ → List ℕ
@@ -96,56 +89,16 @@ runs_law ns small short = go (nat_lt longest_entry_line (length (run_text ns))) 
 
 -- NUMBERS THAT ARE READ
 
--- these parts of the line are left, of which the first stands at this place
-pub record FieldsRead (line : List ℕ) (rest : List (List ℕ)) (offset : ℕ) (worded : Bool) (read : List ℕ) : Type 0 where
-  pub whole : numbers_behind_run (fields line) ≡ left_to_read worded read (fields_from offset rest)
-  pub left : offset + span rest ≡ length line + 1
+-- the line says what these numbers and the fields that are left say
+abbrev pub NumbersRead : List ℕ → Bool → List ℕ → List Field → Type 0
+NumbersRead line worded read left = numbers_behind_run (fields line) ≡ left_to_read worded read left
 
-pub read-start : (line : List ℕ) → FieldsRead line (slice_split is_blank line) 0 false []
-read-start line = record { whole = go (numbers_behind_run (fields line)); left = let h = span-split line in omega arith }
+pub read-none : (line : List ℕ) → NumbersRead line false [] (fields line)
+read-none line = go (numbers_behind_run (fields line))
   where
     go : (said : Result (List ℕ) ℕ) → said ≡ numbers_then [] said
     go (Ok ns) = refl
     go (Err place) = refl
-
-module _ (line : List ℕ) (part : List ℕ) (rest : List (List ℕ)) (offset : ℕ) (worded : Bool) (read : List ℕ) (r : FieldsRead line (part ∷ rest) offset worded read) where
-  left_over : offset + (length part + 1) + span rest ≡ length line + 1
-  left_over = let h : offset + (length part + 1 + span rest) ≡ length line + 1 = r.left in omega arith
-
-  -- the place of the next part is within the line, or one behind it
-  pub read-within : offset + (length part + 1) ≤ length line + 1
-  read-within = let h = left_over in omega arith
-
-  -- an empty part is no field
-  pub read-skip : is_some part ≡ false → FieldsRead line rest (offset + (length part + 1)) worded read
-  read-skip none = record { whole = r.whole ∙ ap (left_to_read worded read) (field_skipped offset part rest none); left = left_over }
-
-  -- a field comes next
-  pub read-here : is_some part ≡ true → numbers_behind_run (fields line) ≡ left_to_read worded read (record { offset = offset; bytes = part } ∷ fields_from (offset + (length part + 1)) rest)
-  read-here some = r.whole ∙ ap (left_to_read worded read) (field_first offset part rest some)
-
-  -- a field was read
-  pub read-field : is_some part ≡ true → (now : Bool) (numbers : List ℕ)
-      → ((later : List Field) → left_to_read worded read (record { offset = offset; bytes = part } ∷ later) ≡ left_to_read now numbers later) → FieldsRead line rest (offset + (length part + 1)) now numbers
-  read-field some now numbers same = record { whole = read-here some ∙ same (fields_from (offset + (length part + 1)) rest); left = left_over }
-
--- the part that comes next in a list of parts
-pub read-at : (line : List ℕ) (parts : List (List ℕ)) (k offset : ℕ) (worded : Bool) (read : List ℕ) (part : List ℕ) → (k < length parts) × (part ≡ get_or parts k part)
-    → FieldsRead line (drop k parts) offset worded read → FieldsRead line (part ∷ drop (k + 1) parts) offset worded read
-read-at line parts k offset worded read part (lt, is) r =
-    let cut : drop k parts ≡ get_or parts k part ∷ drop (k + 1) parts = rw add-one (drop-cons parts k part lt) in
-    subst (λ (x : List ℕ). FieldsRead line (x ∷ drop (k + 1) parts) offset worded read) (sym is)
-    (subst (λ (rest : List (List ℕ)). FieldsRead line rest offset worded read) cut r)
-
--- no part is left
-pub read-past : (line : List ℕ) (parts : List (List ℕ)) (k offset : ℕ) (worded : Bool) (read : List ℕ) → length parts ≤ k → FieldsRead line (drop k parts) offset worded read
-    → numbers_behind_run (fields line) ≡ left_to_read worded read []
-read-past line parts k offset worded read over r = (subst (λ (rest : List (List ℕ)). FieldsRead line rest offset worded read) (drop_all k parts over) r).whole
-
--- one part more was read
-pub read-pushed : (line : List ℕ) (parts : List (List ℕ)) {X : Type 0} (xs : List X) (x : X) (offset : ℕ) (worded : Bool) (read : List ℕ)
-    → FieldsRead line (drop (length xs + 1) parts) offset worded read → FieldsRead line (drop (length (xs ++ x ∷ [])) parts) offset worded read
-read-pushed line parts xs x offset worded read r = subst (λ (k : ℕ). FieldsRead line (drop k parts) offset worded read) (sym (length_push xs x)) r
 
 -- the word is read, and then each number
 pub word_read : (read : List ℕ) (field : Field) (later : List Field) → pointwise nat_eq field.bytes (codes "run") ≡ true → left_to_read false read (field ∷ later) ≡ left_to_read true read later
