@@ -1,14 +1,11 @@
 -- The line of a list of numbers reads back as it was written, and is read field by field.
 use Rattle.std.proofs.Common.{◌≡◌, ℕ, ◌+◌, ◌<◌, ◌^◌, Bool, true, false, cond, List, [], ◌∷◌, ◌++◌, length, refl, sym, ap, ◌∙◌, append_assoc, arith}
-use Rattle.std.specs.Prelude.{All, decimal, flat_map, codes, Some, Result, Ok, Err, nat_eq, nat_lt, ◌==◌}
-use Rattle.std.specs.List.{slice_split, list_all}
+use Rattle.std.specs.Prelude.{All, decimal, flat_map, codes, Some, Result, Ok, Err, nat_eq, nat_lt}
+use Rattle.std.specs.List.{slice_split}
 use Rattle.std.specs.Cmp.Lexicographic.{pointwise}
-use Rattle.std.proofs.lemmas.Bool.{eqb-true}
 use Rattle.std.proofs.lemmas.List.{append-nil}
 use Rattle.std.proofs.lemmas.List.Splits.{slice_split_none, slice_split_at}
-use Rattle.names_and_numbers.specs.Names.{is_digit}
 use Rattle.names_and_numbers.specs.Numbers.{natural_of_text, are_digits}
-use Rattle.names_and_numbers.proofs.Bools.{and_left, and_right}
 use Rattle.names_and_numbers.proofs.Printed.{decimal_digits}
 use Rattle.agent_core.specs.Strata.{Each}
 use Rattle.agent_laws.proofs.Eachs.{all_each, each_all}
@@ -17,38 +14,19 @@ use Rattle.trace_text.proofs.LineWalks.{fields_from}
 use Rattle.certificate_text.specs.Limits.{longest_entry_line}
 use Rattle.certificate_text.specs.RunLines.{run_text, number_then, numbers_in, numbers_behind_run, numbers_then, left_to_read}
 use Rattle.certificate_text.specs.Laws.{RunsReadBack}
-use Rattle.certificate_text.proofs.NameTexts.{natural-decimal}
+use Rattle.certificate_text.proofs.NameTexts.{natural-decimal, digit_is_not, decimal_avoids}
 use Rattle.certificate_text.proofs.PartWalks.{field_first}
 
 -- NUMBERS THAT ARE WRITTEN
-
--- no digit is a blank
-digit_no_blank : (b : ℕ) → is_digit b ≡ true → is_blank b ≡ false
-digit_no_blank b d = go (b == 32) refl (b == 9) refl (b == 13) refl
-  where
-    not_here : (k : ℕ) → is_digit k ≡ false → b == k ≡ true → ⊥
-    not_here k off e = let w : false ≡ true = sym off ∙ ap is_digit (sym (eqb-true b k e)) ∙ d in absurd (cc)
-
-    go : (x : Bool) → b == 32 ≡ x → (y : Bool) → b == 9 ≡ y → (z : Bool) → b == 13 ≡ z → is_blank b ≡ false
-    go true ex y ey z ez = absurd (not_here 32 refl ex)
-    go false ex true ey z ez = absurd (not_here 9 refl ey)
-    go false ex false ey true ez = absurd (not_here 13 refl ez)
-    go false ex false ey false ez = rw (ex, ey, ez) refl
-
-digits_no_blank : (ds : List ℕ) → list_all is_digit ds ≡ true → Each (λ b. is_blank b ≡ false) ds
-digits_no_blank [] h = tt
-digits_no_blank (d ∷ ds) h = (digit_no_blank d (and_left (is_digit d) (list_all is_digit ds) h), digits_no_blank ds (and_right (is_digit d) (list_all is_digit ds) h))
-
-numeral_no_blank : (ds : List ℕ) → are_digits ds ≡ true → All (λ b. is_blank b ≡ false) ds
-numeral_no_blank [] h = each_all (λ b. is_blank b ≡ false) [] tt
-numeral_no_blank (d ∷ ds) h = each_all (λ b. is_blank b ≡ false) (d ∷ ds) (digits_no_blank (d ∷ ds) h)
 
 numeral_some : (ds : List ℕ) → are_digits ds ≡ true → is_some ds ≡ true
 numeral_some [] h = h
 numeral_some (d ∷ ds) h = refl
 
 decimal_no_blank : (n : ℕ) → n < 10 ^ 9 → All (λ b. is_blank b ≡ false) (decimal n)
-decimal_no_blank n lt = numeral_no_blank (decimal n) (decimal_digits n (omega arith))
+decimal_no_blank n lt =
+    each_all (λ b. is_blank b ≡ false) (decimal n)
+    (decimal_avoids is_blank (λ b digit. rw (digit_is_not b 32 refl digit, digit_is_not b 9 refl digit, digit_is_not b 13 refl digit) refl) n lt)
 
 decimal_some : (n : ℕ) → n < 10 ^ 9 → is_some (decimal n) ≡ true
 decimal_some n lt = numeral_some (decimal n) (decimal_digits n (omega arith))

@@ -1,6 +1,6 @@
 //! Laws of the texts. Each is a function that computes nothing, and its contract is the law.
 ghost use Rattle.std.specs.Prelude.{◌≡◌};
-ghost use Rattle.certificate_text.specs.Laws.{GivenLinesAreGood, InputsReadBack, LinesGiveInputs, LinesGiveOneInput, NamesReadBack, RunsReadBack};
+ghost use Rattle.certificate_text.specs.Laws.{GivenLinesAreGood, InputsReadBack, LinesGiveInputs, LinesGiveOneInput, LocalTokensReadBack, LocalTokensSayOne, LocalValuesReadBack, NamesReadBack, RunsReadBack};
 ghost use Rattle.certificate_text.specs.Limits.{longest_entry_line};
 
 use crate::limits::LONGEST_ENTRY_LINE;
@@ -8,6 +8,14 @@ use crate::limits::LONGEST_ENTRY_LINE;
 /// The name of a local cell reads back as it was written, where its numbers have nine digits at most.
 pub fn names_law()
     ensures { NamesReadBack }
+{}
+
+/// The text of a token of a local cell says one thing. Tokens that fit a cell read back as they were written, and so do both
+/// bounds at once, where the numbers of the name have nine digits at most.
+pub fn local_tokens_law()
+    ensures one { LocalTokensSayOne }
+    ensures read_back { LocalTokensReadBack }
+    ensures both_bounds { LocalValuesReadBack }
 {}
 
 /// A list of leaves reads back as it was written, where its numbers have nine digits at most and its line is not too long.

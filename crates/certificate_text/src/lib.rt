@@ -18,7 +18,7 @@ mod tests;
 
 pub use fault::EntryLineFault;
 pub use in_line::{read_in, write_in};
-pub use laws::{inputs_law, limits_law, names_law, runs_law};
+pub use laws::{inputs_law, limits_law, local_tokens_law, names_law, runs_law};
 pub use limits::LONGEST_ENTRY_LINE;
 pub use local_name::{read_name, write_name};
 pub use local_token::{LocalToken, read_local_token};
