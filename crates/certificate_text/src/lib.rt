@@ -1,5 +1,5 @@
-//! The texts of certificates: the names of local cells and their tokens, the lines of inputs and outputs, and the lines that list the
-//! leaves of an instant.
+//! The texts of certificates: the names of local cells and their tokens, and the three lines of an entry, which are those
+//! of an input, of an output, and of the leaves that tell.
 #![tactic(auto)]
 
 mod blanks;
