@@ -1,6 +1,6 @@
 -- The name of a local cell reads back as it was written, and its numbers are read one after the other.
 use Rattle.std.proofs.Common.{◌≡◌, ℕ, ◌+◌, ◌<◌, ◌≤◌, ◌^◌, Bool, true, false, cond, List, [], ◌∷◌, ◌++◌, length, drop, refl, sym, ap, ◌∙◌, subst, append_assoc, add-one, drop-cons, arith}
-use Rattle.std.specs.Prelude.{All, decimal, flat_map, codes, Option, Some, None, get_or}
+use Rattle.std.specs.Prelude.{All, decimal, flat_map, codes, Option, Some, None, get_or, ◌==◌}
 use Rattle.std.specs.List.{slice_split, list_all}
 use Rattle.std.specs.Str.Parse.{digits_value}
 use Rattle.std.proofs.lemmas.Bool.{eqb-true}
@@ -24,24 +24,29 @@ pub natural-decimal : (n : ℕ) → n < 10 ^ 9 → natural_of_text (decimal n) �
 natural-decimal n lt =
     ap (λ b. cond b (Some (digits_value 10 (decimal n))) None) (few_decimal n lt) ∙ ap Some (decimal_is_IsNumeral n (omega arith)).1
 
--- no digit is a dot
-digit_no_dot : (b : ℕ) → is_digit b ≡ true → is_dot b ≡ false
-digit_no_dot b d = go (is_dot b) refl
+-- a digit is no byte that is none
+pub digit_is_not : (b k : ℕ) → is_digit k ≡ false → is_digit b ≡ true → b == k ≡ false
+digit_is_not b k none digit = go (b == k) refl
   where
-    go : (t : Bool) → is_dot b ≡ t → t ≡ false
+    go : (t : Bool) → b == k ≡ t → t ≡ false
     go false e = refl
-    go true e = let w : false ≡ true = ap is_digit (sym (eqb-true b 46 e)) ∙ d in absurd (cc)
+    go true e = let w : false ≡ true = sym none ∙ ap is_digit (sym (eqb-true b k e)) ∙ digit in absurd (cc)
 
-digits_no_dot : (ds : List ℕ) → list_all is_digit ds ≡ true → Each (λ b. is_dot b ≡ false) ds
-digits_no_dot [] h = tt
-digits_no_dot (d ∷ ds) h = (digit_no_dot d (and_left (is_digit d) (list_all is_digit ds) h), digits_no_dot ds (and_right (is_digit d) (list_all is_digit ds) h))
+-- the digits of a number pass no test that no digit passes
+module _ (test : ℕ → Bool) (none : (b : ℕ) → is_digit b ≡ true → test b ≡ false) where
+  digits_avoid : (ds : List ℕ) → list_all is_digit ds ≡ true → Each (λ b. test b ≡ false) ds
+  digits_avoid [] h = tt
+  digits_avoid (d ∷ ds) h = (none d (and_left (is_digit d) (list_all is_digit ds) h), digits_avoid ds (and_right (is_digit d) (list_all is_digit ds) h))
 
-numeral_no_dot : (ds : List ℕ) → are_digits ds ≡ true → All (λ b. is_dot b ≡ false) ds
-numeral_no_dot [] h = each_all (λ b. is_dot b ≡ false) [] tt
-numeral_no_dot (d ∷ ds) h = each_all (λ b. is_dot b ≡ false) (d ∷ ds) (digits_no_dot (d ∷ ds) h)
+  numeral_avoids : (ds : List ℕ) → are_digits ds ≡ true → Each (λ b. test b ≡ false) ds
+  numeral_avoids [] h = tt
+  numeral_avoids (d ∷ ds) h = digits_avoid (d ∷ ds) h
+
+  pub decimal_avoids : (n : ℕ) → n < 10 ^ 9 → Each (λ b. test b ≡ false) (decimal n)
+  decimal_avoids n lt = numeral_avoids (decimal n) (decimal_digits n (omega arith))
 
 decimal_no_dot : (n : ℕ) → n < 10 ^ 9 → All (λ b. is_dot b ≡ false) (decimal n)
-decimal_no_dot n lt = numeral_no_dot (decimal n) (decimal_digits n (omega arith))
+decimal_no_dot n lt = each_all (λ b. is_dot b ≡ false) (decimal n) (decimal_avoids is_dot (λ b digit. digit_is_not b 46 refl digit) n lt)
 
 -- numbers with a dot before each but the first
 numbers-back : (n : ℕ) (ns : List ℕ) → n < 10 ^ 9 → Each (λ m. m < 10 ^ 9) ns → naturals_of (slice_split is_dot (decimal n ++ flat_map (λ m. codes "." ++ decimal m) ns)) ≡ Some (n ∷ ns)

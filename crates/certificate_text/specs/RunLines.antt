@@ -11,35 +11,35 @@ use Rattle.certificate_text.specs.declared.fault.EntryLineFault.TheVariants.{Bad
 abbrev pub run_text : List ℕ → List ℕ
 run_text numbers = codes "run" ++ flat_map (λ n. codes " " ++ decimal n) numbers
 
--- the number of the piece at this place and then the later ones, or the place of the first piece that is none
+-- the number of the field at this place and then the later ones, or the place of the first field that is none
 abbrev pub number_then : ℕ → Option ℕ → Result (List ℕ) ℕ → Result (List ℕ) ℕ
 number_then offset None later = Err offset
 number_then offset (Some n) (Ok ns) = Ok (n ∷ ns)
 number_then offset (Some n) (Err later) = Err later
 
--- the numbers that the pieces are, or the place of the first that is none
+-- the numbers that the fields are, or the place of the first that is none
 abbrev pub numbers_in : List Field → Result (List ℕ) ℕ
 numbers_in [] = Ok []
-numbers_in (piece ∷ later) = number_then piece.offset (natural_of_text piece.bytes) (numbers_in later)
+numbers_in (field ∷ later) = number_then field.offset (natural_of_text field.bytes) (numbers_in later)
 
--- the same, of pieces of which the first is to be the word `run`; where there is none the place is 0
+-- the same, of fields of which the first is to be the word `run`; where there is none the place is 0
 abbrev pub numbers_behind_run : List Field → Result (List ℕ) ℕ
 numbers_behind_run [] = Err 0
-numbers_behind_run (piece ∷ later) = if pointwise nat_eq piece.bytes (codes "run") then numbers_in later else Err piece.offset
+numbers_behind_run (field ∷ later) = if pointwise nat_eq field.bytes (codes "run") then numbers_in later else Err field.offset
 
 -- the numbers that a line says, or the place at which it is bad
 abbrev pub run_of_line : List ℕ → Result (List ℕ) ℕ
 run_of_line line = if nat_lt longest_entry_line (length line) then Err longest_entry_line else numbers_behind_run (fields line)
 
--- numbers that were read, and then what the later pieces say
+-- numbers that were read, and then what the later fields say
 abbrev pub numbers_then : List ℕ → Result (List ℕ) ℕ → Result (List ℕ) ℕ
 numbers_then read (Ok ns) = Ok (read ++ ns)
 numbers_then read (Err place) = Err place
 
--- what these numbers and the pieces that are left say, before the word is read and after it
+-- what these numbers and the fields that are left say, before the word is read and after it
 abbrev pub left_to_read : Bool → List ℕ → List Field → Result (List ℕ) ℕ
-left_to_read false read pieces = numbers_then read (numbers_behind_run pieces)
-left_to_read true read pieces = numbers_then read (numbers_in pieces)
+left_to_read false read left = numbers_then read (numbers_behind_run left)
+left_to_read true read left = numbers_then read (numbers_in left)
 
 -- the fault is that of the line which says this; out of memory is the fault of none
 abbrev pub IsFaultOf : Result (List ℕ) ℕ → EntryLineFault → Type 0

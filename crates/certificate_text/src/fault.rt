@@ -7,7 +7,7 @@ use thiserror::Error;
 /// Why a line is no part of an entry.
 #[derive(Clone, Copy, Debug, PartialEq, Eq, Error)]
 pub enum EntryLineFault {
-    /// The piece at this offset, the first that does not read, is bad. A line without a piece is bad at 0, and one of more than
+    /// The field at this offset, the first that does not read, is bad. A line without a field is bad at 0, and one of more than
     /// `LONGEST_ENTRY_LINE` bytes at that number.
     #[error("bad at offset {offset}")]
     Bad { offset: u32 },

@@ -1,6 +1,6 @@
 //! Laws of the texts. Each is a function that computes nothing, and its contract is the law.
 ghost use Rattle.std.specs.Prelude.{◌≡◌};
-ghost use Rattle.certificate_text.specs.Laws.{NamesReadBack, RunsReadBack};
+ghost use Rattle.certificate_text.specs.Laws.{GivenLinesAreGood, InputsReadBack, LinesGiveInputs, LinesGiveOneInput, LocalTokensReadBack, LocalTokensSayOne, LocalValuesReadBack, NamesReadBack, RunsReadBack};
 ghost use Rattle.certificate_text.specs.Limits.{longest_entry_line};
 
 use crate::limits::LONGEST_ENTRY_LINE;
@@ -10,9 +10,26 @@ pub fn names_law()
     ensures { NamesReadBack }
 {}
 
+/// The text of a token of a local cell says one thing. Tokens that fit a cell read back as they were written, and so do both
+/// bounds at once, where the numbers of the name have nine digits at most.
+pub fn local_tokens_law()
+    ensures one { LocalTokensSayOne }
+    ensures read_back { LocalTokensReadBack }
+    ensures both_bounds { LocalValuesReadBack }
+{}
+
 /// A list of leaves reads back as it was written, where its numbers have nine digits at most and its line is not too long.
 pub fn runs_law()
     ensures { RunsReadBack }
+{}
+
+/// The `in` line of an input gives that input back, where the declared cells have names of their own. A line gives one store
+/// over the declared cells at most, and is then bad nowhere.
+pub fn inputs_law()
+    ensures reads_back { InputsReadBack }
+    ensures input { LinesGiveInputs }
+    ensures one { LinesGiveOneInput }
+    ensures good { GivenLinesAreGood }
 {}
 
 /// The limit of the code is the one that the definitions name.

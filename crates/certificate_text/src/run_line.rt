@@ -1,22 +1,17 @@
 //! The `run` line of an entry: which leaves tell, in their order.
 ghost use Rattle.std.specs.Prelude.{◌≡◌, ◌≤◌, ◌++◌, ◌∷◌, [], List, Ok, length, IfErr, IfOk, OnErr, OnOk, decimal};
-ghost use Rattle.trace_text.specs.Fields.{Field, fields, is_blank as is_blank_byte};
+ghost use Rattle.trace_text.specs.Fields.{Field, fields};
 ghost use Rattle.trace_text.specs.Writing.{Grows};
 ghost use Rattle.certificate_text.specs.Limits.{longest_entry_line};
 ghost use Rattle.certificate_text.specs.RunLines.{left_to_read, run_of_line, run_text, numbers_behind_run, IsFaultOf};
 
+use crate::blanks::is_blank;
 use crate::fault::EntryLineFault;
 use crate::limits::LONGEST_ENTRY_LINE;
 use itoa::Buffer;
 use names_and_numbers::read_natural;
 use std::alloc::Global;
 use token_system::Memory;
-
-fn is_blank(byte: u8) -> bool
-    ensures { result ≡ is_blank_byte byte }
-{
-    byte == b' ' || byte == b'\t' || byte == b'\r'
-}
 
 /// What was read of a line: whether its word was, and the numbers behind it.
 #[derive(Debug, Drop)]
@@ -26,22 +21,22 @@ struct RunSoFar {
 }
 
 impl RunSoFar {
-    /// Reads the piece at this offset, which comes next.
-    fn read_piece(&mut self, piece: &[u8], offset: u32) -> Result<(), EntryLineFault>
+    /// Reads the field at this offset, which comes next.
+    fn read_field(&mut self, field: &[u8], offset: u32) -> Result<(), EntryLineFault>
         ensures read { OnOk result ((later : List Field)
-            → left_to_read self.old.worded self.old.numbers.items (record { offset = offset; bytes = piece.now } ∷ later)
+            → left_to_read self.old.worded self.old.numbers.items (record { offset = offset; bytes = field.now } ∷ later)
             ≡ left_to_read self.new.worded self.new.numbers.items later) }
         ensures bad { IfErr result (λ fault. (later : List Field)
-            → IsFaultOf (left_to_read self.old.worded self.old.numbers.items (record { offset = offset; bytes = piece.now } ∷ later)) fault) }
+            → IsFaultOf (left_to_read self.old.worded self.old.numbers.items (record { offset = offset; bytes = field.now } ∷ later)) fault) }
     {
         if !self.worded {
-            if piece != b"run".as_slice() {
+            if field != b"run".as_slice() {
                 return Err(EntryLineFault::Bad { offset });
             }
             self.worded = true;
             return Ok(());
         }
-        let Some(number) = read_natural(piece) else {
+        let Some(number) = read_natural(field) else {
             return Err(EntryLineFault::Bad { offset });
         };
         self.push(number)?;
@@ -58,8 +53,8 @@ impl RunSoFar {
     }
 }
 
-/// Reads the pieces of a line.
-fn read_pieces(alloc: Global, line: &[u8]) -> Result<RunSoFar, EntryLineFault>
+/// Reads the fields of a line.
+fn read_fields(alloc: Global, line: &[u8]) -> Result<RunSoFar, EntryLineFault>
     requires short { length line.now ≤ longest_entry_line }
     ensures read { IfOk result (λ run. numbers_behind_run (fields line.now) ≡ left_to_read run.worded run.numbers.items []) }
     ensures bad { IfErr result (IsFaultOf (numbers_behind_run (fields line.now))) }
@@ -71,7 +66,7 @@ fn read_pieces(alloc: Global, line: &[u8]) -> Result<RunSoFar, EntryLineFault>
     let mut offset: u32 = 0;
     for part in line.split(|byte| is_blank(*byte)) {
         if !part.is_empty() {
-            run.read_piece(part, offset)?;
+            run.read_field(part, offset)?;
         }
         offset += part.len() as u32 + 1;
     }
@@ -89,7 +84,7 @@ pub fn read_run(alloc: Global, line: &[u8]) -> Result<Vec<u32>, EntryLineFault>
             offset: LONGEST_ENTRY_LINE as u32,
         });
     }
-    let run = read_pieces(alloc, line)?;
+    let run = read_fields(alloc, line)?;
     if !run.worded {
         return Err(EntryLineFault::Bad { offset: 0 });
     }

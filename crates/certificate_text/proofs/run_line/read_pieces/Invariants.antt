@@ -1,8 +1,0 @@
-use Rattle.std.proofs.Common.{length, drop}
-use Rattle.std.specs.List.{slice_split}
-use Rattle.trace_text.specs.Fields.{is_blank}
-use Rattle.certificate_text.proofs.RunTexts.{PiecesRead}
-use Rattle.certificate_text.proofs.run_line.read_pieces.Given as goal
-
-abbrev pub invariant-loop-part : goal.invariant-loop-part
-invariant-loop-part l = PiecesRead l.line (drop (length l.yielded) (slice_split is_blank l.line)) l.offset l.run.worded l.run.numbers.items
