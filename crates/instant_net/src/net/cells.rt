@@ -47,20 +47,13 @@ impl Net {
         self.cells[cell as usize].stratum
     }
 
-    /// The cell's first part.
-    pub(crate) fn first(&self, cell: u32) -> u32
+    /// All that the net has of the cell.
+    pub(crate) fn whole_cell(&self, cell: u32) -> &NetCell
         requires { cell < length self.now.cells }
-        ensures { option_map (λ c. c.first) (slice_get self.now.cells cell) ≡ Some result }
+        ensures cell { slice_get self.now.cells cell ≡ Some result.now }
+        ensures net { IsNet self.now }
     {
-        self.cells[cell as usize].first
-    }
-
-    /// The word of the cell's first part.
-    pub(crate) fn word(&self, cell: u32) -> u32
-        requires { cell < length self.now.cells }
-        ensures { option_map (λ c. c.word) (slice_get self.now.cells cell) ≡ Some result }
-    {
-        self.cells[cell as usize].word
+        &self.cells[cell as usize]
     }
 
     /// Where and how the token is told.
@@ -72,7 +65,7 @@ impl Net {
     }
 }
 
-// Where and how a token is told of the cell.
+/// Where and how a token is told of the cell.
 fn told_as(cell: &NetCell, token: Token) -> Told
     requires fits { IsTrue (fits_kind cell.now.cell.kind token) }
     requires small { cell.now.cell.kind ≡ Number → cell.now.word + 1 < 4294967296 }
@@ -90,7 +83,7 @@ fn told_as(cell: &NetCell, token: Token) -> Told
     Told { word, how, bits }
 }
 
-// Two bits, where this signal has them in its word.
+/// Two bits, where this signal has them in its word.
 fn pair_at(signal: u32, bits: u64) -> u64
     requires { bits < 4 }
     ensures { result ≡ pair_at_of signal bits }

@@ -29,21 +29,22 @@ pub fn value(net: &Net, words: &Words, cell: u32) -> Value
     ensures of_cell { (c : NetCell) → slice_get net.now.cells cell ≡ Some c → IsValueOf c.cell result }
     ensures in_store { (c : NetCell) → slice_get net.now.cells cell ≡ Some c → result ≡ value_at (store_in net.now.cells words.now) c.name c.cell }
 {
-    let word = net.word(cell);
-    match net.cell(cell).kind {
-        Kind::Signal => signal(pair_of(net.first(cell), words.at(word))),
-        Kind::Number => number(words.at(word), words.at(word + 1)),
+    let place = net.whole_cell(cell);
+    let word = words.at(place.word);
+    match place.cell.kind {
+        Kind::Signal => signal(pair_of(place.first, word)),
+        Kind::Number => number(word, words.at(place.word + 1)),
     }
 }
 
-// The two bits that this signal has of its word.
+/// The two bits that this signal has of its word.
 fn pair_of(signal: u32, word: u64) -> u64
     ensures { result ≡ pair_of_word signal word }
 {
     (word >> place_in(signal)) % 4
 }
 
-// The value of a signal with these two bits.
+/// The value of a signal with these two bits.
 fn signal(bits: u64) -> Value
     requires { bits < 4 }
     ensures { result ≡ bits_value bits }
@@ -65,7 +66,7 @@ fn signal(bits: u64) -> Value
     }
 }
 
-// The value of a number with these words.
+/// The value of a number with these words.
 fn number(lo: u64, hi: u64) -> Value
     requires { hi < 4294967296 }
     ensures { result ≡ number_value lo hi }
@@ -102,7 +103,7 @@ pub fn has(net: &Net, words: &Words, atom: Atom) -> bool
     entails(value(net, words, atom.cell), atom.token)
 }
 
-// Whether the words allow the guard: they entail its ask where it is a then's, and do not where it is an else's.
+/// Whether the words allow the guard: they entail its ask where it is a then's, and do not where it is an else's.
 fn allows(net: &Net, words: &Words, guard: u32) -> bool
     requires guard { guard < length net.now.guards }
     requires words { AreWords net.now.cells words.now }
@@ -112,7 +113,7 @@ fn allows(net: &Net, words: &Words, guard: u32) -> bool
     if net.is_else(guard) { !held } else { held }
 }
 
-// Whether the words allow this guard, where there is one, and each guard above it.
+/// Whether the words allow this guard, where there is one, and each guard above it.
 fn allow_path(net: &Net, words: &Words, last: Option<u32>) -> bool
     requires net { IsNet net.now }
     requires there { IsLinkBelow (length net.now.guards) last }
