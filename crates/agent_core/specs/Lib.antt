@@ -14,6 +14,7 @@ pub mod RestsAfter
 pub mod Outputs
 pub mod Closures
 pub mod Leaves
+pub mod Occurrences
 pub mod Strata
 pub mod StrataCounts
 pub mod RootOutputs

@@ -1,6 +1,6 @@
 -- The cells of a program and their names. A local cell is named by its new node and by the instants at which that
 -- node and the new nodes around it were started, in place of existential hiding. This project's own.
-use Rattle.std.specs.Prelude.{◌≡◌, ℕ, suc, ◌<◌, Bool, false, if◌then◌else◌, List, [], ◌∷◌, ◌++◌, length, take, position, unwrap_or, Some, slice_get, slice_index, nat_lt, ◌==◌}
+use Rattle.std.specs.Prelude.{◌≡◌, ℕ, suc, ◌<◌, Bool, false, if◌then◌else◌, List, [], ◌∷◌, ◌++◌, length, take, position, unwrap_or, Option, Some, slice_get, slice_index, nat_lt, ◌==◌}
 use Rattle.token_system.specs.declared.name.CellName.{CellName}
 use Rattle.token_system.specs.declared.name.CellName.TheVariants.{Declared, Local}
 use Rattle.agent_core.specs.declared.node.Node.{Node}
@@ -39,6 +39,16 @@ local_name all births m = Local m (take (suc (depth_of all m)) births)
 -- the name of a cell under births
 abbrev pub name_of : CoreProgram → List ℕ → ℕ → CellName
 name_of p births cell = if nat_lt cell p.declared then Declared cell else local_name p.nodes births (new_of p.nodes cell)
+
+-- the cell of a new node
+abbrev pub new_cell : Option Node → ℕ
+new_cell (Some (nodes.New cell body)) = cell
+new_cell _ = 0
+
+-- the number of the cell that has this name
+abbrev pub cell_named : CoreProgram → CellName → ℕ
+cell_named p (Declared n) = n
+cell_named p (Local m births) = new_cell (slice_get p.nodes m)
 
 -- the name is one of the program's, and this is its cell
 abbrev pub Names : CoreProgram → CellName → CellDecl → Type 0

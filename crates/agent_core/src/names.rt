@@ -1,4 +1,5 @@
-ghost use Rattle.std.specs.Prelude.{◌≡◌, ◌<◌, length, position, IfOk};
+//! The names of cells under births.
+ghost use Rattle.std.specs.Prelude.{◌≡◌, ◌<◌, ◌≤◌, length, position, IfOk};
 ghost use Rattle.agent_core.specs.declared.node.CellDecl.{CellDecl};
 ghost use Rattle.agent_core.specs.Listing.{IsListing};
 ghost use Rattle.agent_core.specs.Names as names;
@@ -26,10 +27,11 @@ fn new_of(nodes: &[Node], cell: u32) -> usize
 }
 
 /// How many new nodes enclose the node.
-fn depth_of(nodes: &[Node], wanted: usize) -> usize
+pub fn depth_of(nodes: &[Node], wanted: usize) -> usize
     requires tree { IsListing nodes.now }
     requires inside { wanted < length nodes.now }
-    ensures { result ≡ names.depth_of nodes.now wanted }
+    ensures depth { result ≡ names.depth_of nodes.now wanted }
+    ensures shallow { result ≤ wanted }
 {
     let mut at = 0;
     let mut depth = 0;

@@ -12,7 +12,7 @@ use Rattle.token_system.proofs.Alike.{true_false}
 use Rattle.agent_core.specs.declared.node.CellDecl.{CellDecl}
 use Rattle.agent_core.specs.Agents.{Constraint}
 use Rattle.agent_core.specs.Programs.{CoreProgram}
-use Rattle.agent_core.specs.Names.{Names, name_of, local_name, new_of}
+use Rattle.agent_core.specs.Names.{Names, name_of, local_name, new_of, new_cell, cell_named}
 use Rattle.agent_core.specs.Stores.{IsStore, Below}
 use Rattle.agent_core.specs.Rests.{holds_at, holds, entails}
 use Rattle.agent_core.specs.WellFormed.{IsWellFormed}
@@ -27,7 +27,7 @@ use Rattle.agent_core.proofs.NewNodes.{new_of-found}
 use Rattle.agent_core.proofs.Tellings.{tell_all-least, tell_all-entails, tells_one, entails-above}
 use Rattle.agent_laws.specs.LeafRests.{asked, free}
 use Rattle.agent_laws.specs.LeafLevels.{least_told, leaf_level}
-use Rattle.agent_laws.specs.Ways.{new_cell, cell_named, BelowUpto, AreBelow}
+use Rattle.agent_laws.specs.Ways.{BelowUpto, AreBelow}
 use Rattle.agent_laws.proofs.Eachs.{Each-map}
 use Rattle.agent_laws.proofs.System.{System}
 use Rattle.agent_laws.proofs.LeafLevels.{Under, LeafStratified}

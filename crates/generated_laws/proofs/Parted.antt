@@ -8,10 +8,10 @@ use Rattle.tdcc_base.specs.Lines.{HasNoFeed, lines_of}
 use Rattle.tdcc_base.specs.Texts.{is_mark, Split, behind, split_from}
 use Rattle.tdcc_base.proofs.FirstLines.{first_line-feed, lines_of-feed}
 use Rattle.tdcc_base.proofs.Splits.{split_from-feed, split_from-mark}
-use Rattle.trace_text.specs.Generated.{signals_text, program_text, trace_lines, trace_text}
+use Rattle.trace_text.specs.Generated.{signals_text, program_text, trace_lines, trace_text, input_bytes}
 use Rattle.trace_text.specs.Laws.{IsLine}
 use Rattle.trace_text.proofs.GeneratedLines.{program_line, trace_line}
-use Rattle.generated_laws.specs.GeneratedInputs.{input_bytes, IsParted}
+use Rattle.generated_laws.specs.GeneratedInputs.{IsParted}
 
 no_mark : (n : ℕ) → is_mark (program_text n) ≡ false
 unfolding program_text signals_text

@@ -18,7 +18,7 @@ use Rattle.instant_net.specs.declared.parts.LeafKind.{LeafKind}
 use Rattle.instant_net.specs.declared.parts.LeafKind.TheVariants as kinds
 use Rattle.instant_net.specs.NamedLeaves.{NamedGuard, Kind, Tells, StartsHence, StartsNext, NamedLeaf}
 use Rattle.instant_net.specs.Nets.{AtomFits, named_atoms, named_guard, named_kind, atoms_of}
-use Rattle.instant_net.specs.Occurrences.{Occurrence, occurrence, occurrences_of}
+use Rattle.agent_core.specs.Occurrences.{Occurrence, occurrence, occurrences_of}
 use Rattle.instant_net.specs.Programs.{constraint_named, guard_named, kind_named, leaf_named, occurrence_named, root_leaves, root_occurrences, agent_leaf_count}
 use Rattle.instant_net.specs.Walks.{AreAtomsOf, IsBegun, IsEnded, Grown, none, leaf, under, beside, Adds, AreListedFor}
 use Rattle.instant_net.specs.Links.{guard_link, guard_links, leaf_links, links_of, AreLinked, AreLinkedAsRoots}

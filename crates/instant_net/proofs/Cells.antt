@@ -13,8 +13,7 @@ use Rattle.token_system.specs.Names.{name_cmp}
 use Rattle.agent_core.specs.declared.node.CellDecl.{CellDecl}
 use Rattle.agent_core.specs.Programs.{CoreProgram}
 use Rattle.agent_core.specs.WellFormed.{IsWellFormed}
-use Rattle.agent_core.specs.Names.{Names}
-use Rattle.agent_laws.specs.Ways.{new_cell, cell_named}
+use Rattle.agent_core.specs.Names.{Names, new_cell, cell_named}
 use Rattle.instant_net.specs.declared.parts.NetCell.{NetCell}
 use Rattle.instant_net.specs.NamedLeaves.{NamedLeaf, names_of}
 use Rattle.instant_net.specs.Opened.{IsCellOf, AreInOrder}

@@ -7,7 +7,7 @@ use Rattle.instant_net.specs.declared.parts.NetCell.{NetCell}
 use Rattle.instant_net.specs.declared.parts.NetGuard.{NetGuard}
 use Rattle.instant_net.specs.declared.parts.NetLeaf.{NetLeaf}
 use Rattle.instant_net.specs.NamedLeaves.{NamedGuard, NamedLeaf}
-use Rattle.instant_net.specs.Occurrences.{Occurrence}
+use Rattle.agent_core.specs.Occurrences.{Occurrence}
 use Rattle.instant_net.specs.Nets.{AtomFits, named_guard, named_kind, path_to, paths_from, IsAtOrAbove, here, above, IsLinkBelow, atoms_of}
 use Rattle.instant_net.specs.Walks.{Grown, none, leaf, under, beside}
 use Rattle.instant_net.proofs.Lists.{get-append, get-left, get-right}

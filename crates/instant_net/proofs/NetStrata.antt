@@ -10,13 +10,12 @@ use Rattle.agent_core.specs.declared.node.Closure.{Closure}
 use Rattle.agent_core.specs.Agents.{Agent, Constraint, Skip, Tell, Then, Else, Par, New, Hence, Next, agent_at}
 use Rattle.agent_core.specs.Programs.{CoreProgram}
 use Rattle.agent_core.specs.WellFormed.{IsWellFormed}
-use Rattle.agent_core.specs.Names.{IsClosure, name_of, local_name, new_of}
+use Rattle.agent_core.specs.Names.{IsClosure, name_of, local_name, new_of, new_cell, cell_named}
 use Rattle.agent_core.specs.Scope.{TokenFits, ConstraintFits}
 use Rattle.agent_core.specs.Strata.{Each, Stratifies}
 use Rattle.agent_core.specs.Leaves as core
 use Rattle.agent_core.proofs.NewNodes.{new_of-found}
 use Rattle.agent_laws.specs.Laws.{AreClosures}
-use Rattle.agent_laws.specs.Ways.{new_cell, cell_named}
 use Rattle.agent_laws.proofs.Eachs.{Each-map, Each-append, all_each, each_at}
 use Rattle.agent_laws.proofs.Instance.{GuardFits}
 use Rattle.agent_laws.proofs.LeafLevels.{Under, LeafStratified}

@@ -11,10 +11,9 @@ use Rattle.token_system.specs.Names.{name_cmp, name_total}
 use Rattle.agent_core.specs.declared.node.Closure.{Closure}
 use Rattle.agent_core.specs.declared.node.CellDecl.{CellDecl}
 use Rattle.agent_core.specs.Programs.{CoreProgram}
-use Rattle.agent_core.specs.Names.{Names}
+use Rattle.agent_core.specs.Names.{Names, cell_named}
 use Rattle.agent_core.specs.Strata.{Each}
 use Rattle.agent_core.proofs.OneStore.{Names-one}
-use Rattle.agent_laws.specs.Ways.{cell_named}
 use Rattle.agent_laws.proofs.Eachs.{Each-append, all_each, each_all}
 use Rattle.instant_net.specs.declared.parts.Atom.{Atom}
 use Rattle.instant_net.specs.declared.parts.NetCell.{NetCell}
@@ -23,7 +22,7 @@ use Rattle.instant_net.specs.declared.parts.NetLeaf.{NetLeaf}
 use Rattle.instant_net.specs.declared.parts.LeafKind.{LeafKind}
 use Rattle.instant_net.specs.declared.parts.LeafKind.TheVariants as kinds
 use Rattle.instant_net.specs.NamedLeaves.{Named, NamedGuard, Kind, NamedLeaf, told_by, names_of}
-use Rattle.instant_net.specs.Occurrences.{Occurrence}
+use Rattle.agent_core.specs.Occurrences.{Occurrence}
 use Rattle.instant_net.specs.Nets.{Flat, AtomFits, named_at, named_atoms, named_guard, named_kind, named_leaf, named_occurrence, net_leaves, path_to, paths_from, atoms_of, IsLinkBelow}
 use Rattle.instant_net.specs.Links.{GuardLinks, links_of}
 use Rattle.instant_net.specs.Opened.{IsCellOf, AreInOrder, IsNetOf}

@@ -1,6 +1,5 @@
 pub mod Limits
 pub mod NamedLeaves
-pub mod Occurrences
 pub mod Nets
 pub mod Readers
 pub mod Programs

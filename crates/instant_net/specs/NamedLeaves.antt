@@ -7,7 +7,7 @@ use Rattle.token_system.specs.declared.name.CellName.{CellName}
 use Rattle.token_system.specs.Stores.{StoreMap, store_entails, after_tell}
 use Rattle.agent_core.specs.declared.node.Closure.{Closure}
 use Rattle.agent_core.specs.Rests.{◌⇒◌}
-use Rattle.instant_net.specs.Occurrences.{Occurrence}
+use Rattle.agent_core.specs.Occurrences.{Occurrence}
 
 -- a token of a named cell
 pub record Named : Type 0 where
@@ -76,7 +76,7 @@ named_leaf_rests u v l =
 abbrev pub leaves_rest : List NamedLeaf → StoreMap → StoreMap → Bool
 leaves_rest ls u v = list_all (named_leaf_rests u v) ls
 
--- the store after each of the tokens is after_tell
+-- the store after each of the tokens is told
 abbrev pub tell_named : List Named → StoreMap → StoreMap
 tell_named [] u = u
 tell_named (x ∷ named) u = tell_named named (after_tell u x.name x.cell x.token)

@@ -7,7 +7,7 @@ use Rattle.instant_net.specs.declared.parts.NetGuard.{NetGuard}
 use Rattle.instant_net.specs.declared.parts.NetLeaf.{NetLeaf}
 use Rattle.instant_net.specs.declared.parts.LeafKind.{LeafKind}
 use Rattle.instant_net.specs.declared.parts.LeafKind.TheVariants as kinds
-use Rattle.instant_net.specs.Occurrences.{Occurrence}
+use Rattle.agent_core.specs.Occurrences.{Occurrence}
 use Rattle.instant_net.specs.NamedLeaves.{Named, NamedGuard, Kind, Idle, Tells, StartsHence, StartsNext, NamedLeaf}
 
 -- what a net is seen as

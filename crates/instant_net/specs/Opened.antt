@@ -8,10 +8,9 @@ use Rattle.agent_core.specs.declared.node.Closure.{Closure}
 use Rattle.agent_core.specs.declared.node.CellDecl.{CellDecl}
 use Rattle.agent_core.specs.Programs.{CoreProgram}
 use Rattle.agent_core.specs.WellFormed.{IsWellFormed}
-use Rattle.agent_core.specs.Names.{Names}
+use Rattle.agent_core.specs.Names.{Names, cell_named}
 use Rattle.agent_core.specs.StrataCounts.{strata_of}
 use Rattle.agent_laws.specs.Laws.{AreClosures}
-use Rattle.agent_laws.specs.Ways.{cell_named}
 use Rattle.instant_net.specs.declared.parts.NetCell.{NetCell}
 use Rattle.instant_net.specs.declared.parts.NetGuard.{NetGuard}
 use Rattle.instant_net.specs.declared.parts.NetLeaf.{NetLeaf}

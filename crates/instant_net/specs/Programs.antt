@@ -8,7 +8,7 @@ use Rattle.agent_core.specs.Programs.{CoreProgram}
 use Rattle.agent_core.specs.Names.{name_of}
 use Rattle.agent_core.specs.Closures.{closure}
 use Rattle.agent_core.specs.Leaves as core
-use Rattle.instant_net.specs.Occurrences.{Occurrence, occurrences}
+use Rattle.agent_core.specs.Occurrences.{Occurrence, occurrences}
 use Rattle.instant_net.specs.NamedLeaves.{Named, NamedGuard, Kind, Idle, Tells, StartsHence, StartsNext, NamedLeaf}
 
 abbrev pub token_named : CoreProgram → List ℕ → ℕ → Token → Option CellDecl → List Named

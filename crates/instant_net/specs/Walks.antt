@@ -16,7 +16,7 @@ use Rattle.instant_net.specs.declared.parts.NetGuard.{NetGuard}
 use Rattle.instant_net.specs.declared.parts.NetLeaf.{NetLeaf}
 use Rattle.instant_net.specs.Locals.{AreLocalsOf}
 use Rattle.instant_net.specs.NamedLeaves.{NamedGuard, NamedLeaf}
-use Rattle.instant_net.specs.Occurrences.{Occurrence, occurrences_of}
+use Rattle.agent_core.specs.Occurrences.{Occurrence, occurrences_of}
 use Rattle.instant_net.specs.Links.{guard_count, AreLinked, AreLinkedAsRoots}
 use Rattle.instant_net.specs.Opened.{AreInOrder}
 use Rattle.instant_net.specs.Nets.{AtomFits, named_at, named_atoms, named_guard, named_kind, atoms_of}

@@ -17,7 +17,7 @@ use Rattle.instant_net.specs.Laws.{NetsHaveRootOutputs}
 use Rattle.instant_net.proofs.Lists.{get-append}
 use Rattle.residuals.specs.RootLists.{RootLists, listed_roots}
 use Rattle.residuals.specs.NextRoots.{FollowRoots}
-use Rattle.run_book.specs.DeclaredParts.{IsDeclaredPart, AreDeclaredParts}
+use Rattle.token_system.specs.DeclaredParts.{IsDeclaredPart, AreDeclaredParts}
 use Rattle.run_book.specs.Books.{BookView, KeepsRun, IsBook, HasClosedInstant}
 
 -- what holds of two lists place by place holds with one more of each

@@ -15,7 +15,7 @@ use Rattle.instant_net.specs.Opened.{IsCellOf, HasCells}
 use Rattle.instant_net.specs.Words.{store_in, value_in}
 use Rattle.instant_net.proofs.StoreLookups.{get-none, get-stored_other, get-stored_same, names_apart, same_or_not}
 use Rattle.instant_net.proofs.KeptValues.{store_in-more}
-use Rattle.run_book.specs.DeclaredParts.{IsDeclaredPart}
+use Rattle.token_system.specs.DeclaredParts.{IsDeclaredPart}
 
 -- a name that no cell from place k on has is kept as the cells before say
 get-front : (k : ℕ) (cells : List NetCell) (words : List ℕ) (q : CellName) → ((j : ℕ) (c : NetCell) → k ≤ j → slice_get cells j ≡ Some c → q ≢ c.name) → get (store_in (take k cells) words) q ≡ get (store_in cells words) q

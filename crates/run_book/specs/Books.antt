@@ -9,7 +9,7 @@ use Rattle.agent_core.specs.Outputs.{IsRun}
 use Rattle.agent_core.specs.Closures as closures
 use Rattle.agent_core.specs.Strata.{Stratifies}
 use Rattle.residuals.specs.RootLists.{RootLists, AreRootsOf}
-use Rattle.run_book.specs.DeclaredParts.{IsDeclaredPart, AreDeclaredParts}
+use Rattle.token_system.specs.DeclaredParts.{IsDeclaredPart, AreDeclaredParts}
 
 -- what a book is seen as: the inputs of the closed instants, what their outputs say of declared cells, and the roots of the instant after them
 pub record BookView : Type 0 where

@@ -1,3 +1,2 @@
-pub mod DeclaredParts
 pub mod Books
 pub mod Codes

@@ -15,7 +15,7 @@ use Rattle.agent_laws.specs.Laws.{AreClosures}
 use Rattle.agent_laws.proofs.Eachs.{Each-append, Each-map, all_each}
 use Rattle.agent_laws.proofs.Instance.{GuardFits}
 use Rattle.instant_net.specs.declared.parts.NetGuard.{NetGuard}
-use Rattle.instant_net.specs.Occurrences.{Occurrence, occurrences_of, occurrences}
+use Rattle.agent_core.specs.Occurrences.{Occurrence, occurrences_of, occurrences}
 use Rattle.instant_net.specs.NamedLeaves.{NamedGuard, named_entails, reaches_named}
 use Rattle.instant_net.specs.Nets.{Flat, named_occurrence}
 use Rattle.instant_net.specs.Opened.{IsNetOf}

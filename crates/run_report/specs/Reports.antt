@@ -7,7 +7,7 @@ use Rattle.agent_core.specs.Programs.{CoreProgram}
 use Rattle.agent_core.specs.Rests.{entails}
 use Rattle.agent_core.specs.Leaves as leaves
 use Rattle.agent_core.specs.Leaves.{Guard, Positive, Negative, allows}
-use Rattle.instant_net.specs.Occurrences.{Occurrence, occurrences}
+use Rattle.agent_core.specs.Occurrences.{Occurrence, occurrences}
 use Rattle.run_report.specs.declared.counts.Report.{Report}
 
 -- the store reaches the then or else: it entails each then ask above it, and no else ask

@@ -8,7 +8,7 @@ use Rattle.token_system.specs.Stores.{StoreMap}
 use Rattle.agent_core.specs.Strata.{Each}
 use Rattle.agent_core.proofs.Bools.{both, first_of_both, second_of_both}
 use Rattle.agent_core.proofs.OneStore.{Below-antisym}
-use Rattle.agent_laws.specs.Ways.{cell_named}
+use Rattle.agent_core.specs.Names.{cell_named}
 use Rattle.agent_laws.proofs.Eachs.{Each-append, all_each, each_at}
 use Rattle.agent_laws.proofs.Instance.{not_up, cell_within}
 use Rattle.agent_laws.proofs.System.{System}

@@ -1,4 +1,4 @@
--- Forms while they are read: with the place of a par's right part told from the par's own.
+-- Forms while they are read: with the place of a par's right part counted from the par's own.
 use Rattle.std.specs.Prelude.{ℕ, ◌+◌, ◌≤◌, min, List, [], ◌∷◌, ◌++◌, length}
 use Rattle.tdcc_reader.specs.Limits.{most_constraint_tokens}
 use Rattle.tdcc_reader.specs.declared.surface.Form.{Form}

@@ -1,4 +1,4 @@
--- How many terms a phrase has, so that places within it can be told.
+-- How many terms a phrase has, so that places within it can be counted.
 use Rattle.std.specs.Prelude.{ℕ, ◌+◌}
 use Rattle.program_grammar.specs.Phrases.{TokenPhrase, AtLeast, AtMost, Exactly, ConstraintPhrase, One, Both, UnitPhrase, Tell, Braces, IfThen, IfElse, LocalSignal, LocalInt, AgentPhrase, Only, Par, NamesPhrase, LastName, MoreName, ItemsPhrase, LastItem, MoreItem}
 use Rattle.program_grammar.specs.Phrases as phrases

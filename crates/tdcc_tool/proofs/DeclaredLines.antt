@@ -13,7 +13,7 @@ use Rattle.token_system.specs.Values.{bottom_of}
 use Rattle.token_system.specs.Stores.{StoreMap, value_at}
 use Rattle.agent_core.specs.declared.node.CellDecl.{CellDecl}
 use Rattle.agent_core.specs.Programs.{CoreProgram}
-use Rattle.run_book.specs.DeclaredParts.{IsDeclaredPart, AreDeclaredParts}
+use Rattle.token_system.specs.DeclaredParts.{IsDeclaredPart, AreDeclaredParts}
 use Rattle.trace_text.specs.StoreLines.{value_texts, cell_texts, store_line}
 
 module _ (whole part : StoreMap) (is : IsDeclaredPart whole part) where

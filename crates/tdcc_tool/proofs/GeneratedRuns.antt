@@ -19,9 +19,9 @@ use Rattle.tdcc_reader.specs.Texts.{ReadsAs}
 use Rattle.surface_laws.proofs.WellFormed.{surface_formed}
 use Rattle.expansion_laws.specs.Expansions.{IsExpansion}
 use Rattle.expansion_laws.proofs.WholePrograms.{some_expansion}
-use Rattle.trace_text.specs.Generated.{trace_lines}
+use Rattle.trace_text.specs.Generated.{trace_lines, input_bytes}
 use Rattle.trace_text.proofs.GeneratedLines.{length-trace}
-use Rattle.generated_laws.specs.GeneratedInputs.{input_bytes, GivesSomeInput}
+use Rattle.generated_laws.specs.GeneratedInputs.{GivesSomeInput}
 use Rattle.generated_laws.specs.GeneratedSurfaces.{surface}
 use Rattle.generated_laws.specs.GeneratedTables.{table}
 use Rattle.generated_laws.proofs.Accepted.{line_read}

@@ -4,7 +4,7 @@ use Rattle.command_words.specs.declared.command.Command.{Command}
 use Rattle.command_words.specs.declared.command.Command.TheVariants as commands
 use Rattle.command_words.specs.declared.settings.Limits.{Limits}
 use Rattle.command_words.specs.Limits.{default_fuel, default_net, greatest_net}
-use Rattle.generated_laws.specs.GeneratedInputs.{input_bytes}
+use Rattle.trace_text.specs.Generated.{input_bytes}
 use Rattle.tdcc_tool.specs.declared.task.Task.{Task}
 use Rattle.tdcc_tool.specs.declared.task.Task.TheVariants as tasks
 use Rattle.tdcc_tool.specs.declared.output.OutputMode.TheVariants.{Stores, Reports, Summary}

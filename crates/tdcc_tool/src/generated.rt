@@ -1,6 +1,6 @@
 //! What `gen` answers: it runs a program that it generates.
 ghost use Rattle.std.specs.Prelude.{◌≡◌, IfOk, IsErrOf};
-ghost use Rattle.generated_laws.specs.GeneratedInputs.{input_bytes};
+ghost use Rattle.trace_text.specs.Generated.{input_bytes};
 ghost use Rattle.tdcc_tool.specs.Answers.{AnswersTo};
 ghost use Rattle.tdcc_tool.specs.Statuses.{IsCommandEnd};
 ghost use Rattle.tdcc_tool.specs.Tasks.{HasNetLimit};

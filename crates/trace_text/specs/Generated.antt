@@ -89,3 +89,7 @@ trace_lines n = lines_after (draw_after n 109) n
 -- each line ends with a line feed
 unfoldable pub trace_text : ℕ → List ℕ
 trace_text n = flat_map (λ line. line ++ codes "\n") (trace_lines n)
+
+-- the input of n: the program, a mark, and the trace
+abbrev pub input_bytes : ℕ → List ℕ
+input_bytes n = program_text n ++ codes "\n%%\n" ++ trace_text n

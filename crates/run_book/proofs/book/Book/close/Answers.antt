@@ -1,7 +1,7 @@
 use Rattle.std.proofs.Common.{◌≤◌, length, sym, ap, ◌∙◌, subst, take}
 use Rattle.instant_net.specs.Words.{store_in}
 use Rattle.residuals.specs.NextRoots.{FollowRoots}
-use Rattle.run_book.specs.DeclaredParts.{IsDeclaredPart}
+use Rattle.token_system.specs.DeclaredParts.{IsDeclaredPart}
 use Rattle.run_book.specs.Books.{BookView, IsBook}
 use Rattle.run_book.proofs.FrontParts.{declared_within, front-part}
 use Rattle.run_book.proofs.Closings.{closed_book-seen, Closes, closes}
