@@ -1,3 +1,4 @@
+//! Cells and nodes of which it is not known yet whether they make a program.
 ghost use Rattle.std.specs.Prelude.{◌≡◌, ◌≤◌, ◌<◌, ◌-◌, ◌↔◌, ◌⊎◌, IsTrue, length, filter_map};
 ghost use Rattle.agent_core.specs.Agents.{agent_at};
 ghost use Rattle.agent_core.specs.Listing.{IsListing};

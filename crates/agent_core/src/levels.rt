@@ -1,3 +1,4 @@
+//! A number for each cell of a program.
 ghost use Rattle.std.specs.Prelude.{◌≡◌, ◌<◌, All};
 ghost use Rattle.agent_core.specs.StrataCounts.{strata_of};
 ghost use Rattle.agent_core.specs.Limits.{most_cells};

@@ -1,4 +1,4 @@
-// How large a program may be, and how long a run.
+//! How large a program may be, and how long a run.
 ghost use Rattle.std.specs.Prelude.{◌≡◌};
 ghost use Rattle.agent_core.specs.Limits.{most_cells, most_declared_cells, most_instants, most_nodes};
 

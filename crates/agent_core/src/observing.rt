@@ -1,3 +1,4 @@
+//! When a closure rests at a later instant than it was started, by the definition.
 ghost use Rattle.std.specs.Prelude.{◌≡◌, ◌+◌, ◌-◌, ◌<◌, ◌^◌, All, IfOk, length};
 ghost use Rattle.std.specs.List.{list_all};
 ghost use Rattle.agent_core.specs.Names.{IsClosure};

@@ -1,3 +1,4 @@
+//! A program, and what makes it one.
 ghost use Rattle.std.specs.Prelude.{◌≡◌, ◌↔◌, IfSome, IsSome};
 ghost use Rattle.agent_core.specs.WellFormed.{IsWellFormed};
 

@@ -1,3 +1,4 @@
+//! When a closure rests at the instant that starts it, by the definition.
 ghost use Rattle.std.specs.Prelude.{◌≡◌, ◌<◌, IfOk, length};
 ghost use Rattle.agent_core.specs.Names.{IsClosure};
 ghost use Rattle.agent_core.specs.Scope.{TokenFits, ConstraintFits};

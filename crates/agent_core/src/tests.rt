@@ -1,3 +1,4 @@
+//! Programs, names and rest, worked out by hand.
 ghost use Rattle.std.specs.Prelude.{◌≡◌, ◌<◌, ℕ, [], ◌∷◌, All, IfOk, Some, length, slice_get};
 ghost use Rattle.agent_core.specs.declared.node.CellDecl.{CellDecl as DeclValue};
 ghost use Rattle.agent_core.specs.WellFormed.{IsWellFormed};

@@ -1,3 +1,4 @@
+//! The laws of outputs and runs, each proved as the contract of a function with no body.
 ghost use Rattle.agent_laws.specs.Laws.{NextRootsFollow, OutputsAreTold, ProgramHasOneOutput, ProgramHasOneRun, RestsByLeaves, RestsByRoots, RootsAreClosures, RootsHaveOneOutput, SortedIsInOrder, StartsAtRoot};
 ghost use Rattle.agent_laws.specs.Worked.{StandsOnItself, StartsEverMore, StartsLaterTwice, TellsByDefault};
 

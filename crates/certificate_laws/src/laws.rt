@@ -1,3 +1,4 @@
+//! The laws of certificates, each proved as the contract of a function with no body.
 ghost use Rattle.std.specs.Prelude.{ℕ, List};
 ghost use Rattle.token_system.specs.Stores.{StoreMap};
 ghost use Rattle.agent_core.specs.Programs.{CoreProgram};

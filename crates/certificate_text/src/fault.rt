@@ -1,3 +1,4 @@
+//! Why a line is no part of an entry.
 ghost use Rattle.std.specs.Prelude.{◌≡◌};
 ghost use Rattle.certificate_text.specs.declared.fault.EntryLineFault.TheVariants.{Memory};
 

@@ -7,7 +7,7 @@ use crate::settings::{Limits, Setting, limits_of, number_of, setting_of};
 /// The most lines of a generated trace.
 pub const MOST_GENERATED_LINES: u32 = 65_536;
 
-/// What the tool is told to do.
+/// What the tool is to do.
 #[derive(Clone, Copy, Debug, PartialEq, Eq)]
 pub enum Command {
     /// Runs the program on the trace, and writes the store of each instant.

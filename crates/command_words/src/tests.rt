@@ -3,7 +3,7 @@ use super::*;
 use std::alloc::{AllocError, Global};
 use std::test::Fail;
 
-// The command that the words of a line call.
+/// The command that the words of a line call.
 fn called(alloc: Global, line: &str) -> Result<Option<Command>, AllocError> {
     let mut words = Vec::new(alloc);
     for word in line.split(' ') {

@@ -1,4 +1,4 @@
-// The nodes of core forms.
+//! The nodes of core forms.
 ghost use Rattle.std.specs.Prelude.{◌≡◌, All, IfOk, map};
 ghost use Rattle.core_reader.specs.Forms.{IsCoreForm, form_of_node};
 

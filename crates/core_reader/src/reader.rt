@@ -1,4 +1,4 @@
-// A core text, read.
+//! A core text, read.
 ghost use Rattle.std.specs.Prelude.{◌≡◌, IfErr, IfOk, MatchResult};
 ghost use Rattle.program_grammar.specs.Phrases.{ProgramPhrase as Phrase};
 ghost use Rattle.tdcc_reader.specs.declared.fault.ReadFault as ReadFault;

@@ -1,4 +1,4 @@
-// Core texts and their programs, worked out by hand.
+//! Core texts and their programs, worked out by hand.
 use super::*;
 use agent_core::{Constraint, Node};
 use core_text::print_core;

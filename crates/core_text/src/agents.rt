@@ -1,4 +1,4 @@
-// The text of an agent, from its nodes in preorder.
+//! The text of an agent, from its nodes in preorder.
 ghost use Rattle.std.specs.Prelude.{◌≡◌, ◌++◌, OnOk, codes, reverse};
 ghost use Rattle.agent_core.specs.Agents.{agent_at};
 ghost use Rattle.agent_core.specs.Listing.{IsListing};

@@ -1,4 +1,4 @@
-// The text of a cell, as it is declared.
+//! The text of a cell, as it is declared.
 ghost use Rattle.std.specs.Prelude.{◌≡◌, ◌++◌, OnOk};
 ghost use Rattle.core_text.specs.CoreTexts.{domain_text, decl_text, decl_lines, decl_at, name_at};
 

@@ -1,4 +1,4 @@
-// The text of a constraint.
+//! The text of a constraint.
 ghost use Rattle.std.specs.Prelude.{◌≡◌, ◌++◌, OnOk};
 ghost use Rattle.core_text.specs.CoreTexts.{name_at, constraint_text};
 ghost use Rattle.token_system.specs.Texts.{text_of};

@@ -1,4 +1,4 @@
-// The law of the size of core texts, proved as the contract of a function with no body.
+//! The law of the size of core texts, proved as the contract of a function with no body.
 ghost use Rattle.std.specs.Prelude.{◌≤◌, length};
 ghost use Rattle.agent_core.specs.WellFormed.{IsWellFormed};
 ghost use Rattle.agent_core.specs.Programs.{CoreProgram};

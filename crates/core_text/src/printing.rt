@@ -1,4 +1,4 @@
-// The core text of a program.
+//! The core text of a program.
 ghost use Rattle.std.specs.Prelude.{◌≡◌, ◌++◌, OnOk, OnErr, IfOk};
 ghost use Rattle.agent_core.specs.WellFormed.{IsWellFormed};
 ghost use Rattle.core_text.specs.CoreTexts.{core_text};

@@ -1,4 +1,4 @@
-// Core texts of programs, worked out by hand.
+//! Core texts of programs, worked out by hand.
 ghost use Rattle.std.specs.Prelude.{◌<◌};
 
 use super::*;

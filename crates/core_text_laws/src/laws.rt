@@ -1,4 +1,4 @@
-// The laws of core texts, each proved as the contract of a function with no body.
+//! The laws of core texts, each proved as the contract of a function with no body.
 ghost use Rattle.std.specs.Prelude.{◌≡◌, ◌⊎◌, ℕ, List, Result};
 ghost use Rattle.agent_core.specs.WellFormed.{IsWellFormed};
 ghost use Rattle.agent_core.specs.Programs.{CoreProgram};

@@ -1,3 +1,4 @@
+//! The laws of values and stores as closed sets of tokens, each proved as the contract of a function.
 ghost use Rattle.denotation_laws.specs.Laws.{StoresHaveTokens, TokensHaveOneStore, TokensHaveOneValue, ValuesHaveTokens};
 
 /// The values of a cell are its closed sets of tokens: what tokens entail is what exactly one value stands for, and each

@@ -1,3 +1,4 @@
+//! Runs of small programs, worked out by hand.
 ghost use Rattle.std.specs.Prelude.{◌<◌, ◌≤◌, All, IfOk, length};
 ghost use Rattle.agent_core.specs.Limits.{most_instants};
 ghost use Rattle.agent_core.specs.WellFormed.{IsWellFormed};

@@ -1,4 +1,4 @@
-// The cells of a symbolic agent's program.
+//! The cells of a symbolic agent's program.
 ghost use Rattle.std.specs.Prelude.{◌≡◌, ◌+◌, ◌<◌, ◌^◌, ◌++◌, IfOk, length, slice_get, take, unwrap_or};
 ghost use Rattle.expansion_laws.specs.Numbering.{cells_from, hidden};
 

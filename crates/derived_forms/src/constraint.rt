@@ -1,4 +1,4 @@
-// Constraints of the nodes that an expansion adds.
+//! Constraints of the nodes that an expansion adds.
 ghost use Rattle.std.specs.Prelude.{◌≡◌, IfOk};
 ghost use Rattle.expansion_laws.specs.Table.{signal_on};
 

@@ -1,4 +1,4 @@
-// What the derived forms make of the first symbolic agent that is emitted.
+//! What the derived forms make of the first symbolic agent that is emitted.
 ghost use Rattle.std.specs.Prelude.{◌≡◌, ◌+◌, ◌≤◌, ◌∷◌, ◌++◌, List, IfErr, OnOk, length};
 ghost use Rattle.agent_core.specs.Limits.{most_nodes};
 ghost use Rattle.std.specs.List.{flat_map};

@@ -1,4 +1,4 @@
-// The symbolic agents that are emitted so far.
+//! The symbolic agents that are emitted so far.
 ghost use Rattle.std.specs.Prelude.{◌≡◌, ◌+◌, ◌<◌, ◌≤◌, ◌^◌, [], ◌∷◌, ◌++◌, List, IfErr, IfOk, OnOk, length};
 ghost use Rattle.agent_core.specs.Limits.{most_nodes};
 ghost use Rattle.expansion_laws.specs.SymbolicAgents.{SymbolicAgent};

@@ -1,4 +1,4 @@
-// The symbolic agent of a surface, emitted from its last form to its first.
+//! The symbolic agent of a surface, emitted from its last form to its first.
 ghost use Rattle.std.specs.Prelude.{◌≡◌, ◌+◌, ◌<◌, ◌≤◌, ◌^◌, ◌++◌, List, IfErr, IfOk, OnOk, length, reverse};
 ghost use Rattle.agent_core.specs.Limits.{most_nodes};
 ghost use Rattle.std.specs.List.{flat_map};

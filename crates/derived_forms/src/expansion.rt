@@ -1,4 +1,4 @@
-// The core program of a surface.
+//! The core program of a surface.
 ghost use Rattle.std.specs.Prelude.{◌≡◌, ◌+◌, ◌≤◌, IfErr, IfOk, length, reverse};
 ghost use Rattle.agent_core.specs.Limits.{most_cells, most_nodes};
 ghost use Rattle.agent_core.specs.WellFormed.{IsWellFormed};

@@ -1,4 +1,4 @@
-// Why a surface has no program.
+//! Why a surface has no program.
 ghost use Rattle.std.specs.Prelude.{◌≡◌};
 ghost use Rattle.derived_forms.specs.declared.fault.ExpandFault.TheVariants.{Memory};
 

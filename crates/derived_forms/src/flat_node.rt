@@ -1,4 +1,4 @@
-// Symbolic agents as lists of their nodes.
+//! Symbolic agents as lists of their nodes.
 ghost use Rattle.std.specs.Prelude.{◌≡◌, IfOk};
 ghost use Rattle.derived_forms.specs.FlatNodes.{binder_of, part_count};
 

@@ -1,4 +1,4 @@
-// The nodes of an agent, from the list of them in preorder.
+//! The nodes of an agent, from the list of them in preorder.
 ghost use Rattle.std.specs.Prelude.{◌≡◌, ◌+◌, ◌<◌, ◌≤◌, ◌^◌, ◌∷◌, ◌++◌, ℕ, suc, List, IfOk, OnOk, length, reverse};
 ghost use Rattle.agent_core.specs.Limits.{most_nodes};
 ghost use Rattle.agent_core.specs.Agents.{Agent};

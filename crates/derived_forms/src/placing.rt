@@ -1,4 +1,4 @@
-// The cells of a symbolic agent's program: each new has one of its own, and constraints name them.
+//! The cells of a symbolic agent's program: each new has one of its own, and constraints name them.
 ghost use Rattle.std.specs.Prelude.{◌≡◌, ◌+◌, ◌<◌, ◌^◌, [], ◌∷◌, ◌++◌, List, IfOk, OnOk, length, map, option_to_list, reverse};
 ghost use Rattle.expansion_laws.specs.Numbering.{Binding as Place, bound_agent, bound_constraint, bound_cell};
 ghost use Rattle.expansion_laws.specs.SymbolicAgents.{SymbolicAgent};

@@ -1,4 +1,4 @@
-// Core programs, worked out by hand; their agents are shown as core texts.
+//! Core programs, worked out by hand; their agents are shown as core texts.
 use super::*;
 use agent_core::{Node, Program};
 use core_text::print_core;

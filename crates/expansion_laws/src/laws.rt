@@ -1,4 +1,4 @@
-// The laws of expansions, each proved as the contract of a function that calls the law of surfaces alone.
+//! The laws of expansions, each proved as the contract of a function that calls the law of surfaces alone.
 ghost use Rattle.std.specs.Prelude.{◌≡◌, ◌+◌, ◌≤◌, length};
 ghost use Rattle.agent_core.specs.WellFormed.{IsWellFormed};
 ghost use Rattle.agent_core.specs.Limits.{most_cells, most_nodes};

@@ -1,4 +1,4 @@
-// The laws of generated programs, each proved as the contract of a function with no body.
+//! The laws of generated programs, each proved as the contract of a function with no body.
 ghost use Rattle.std.specs.Prelude.{ℕ, ◌≤◌, List, [], ◌∷◌, ◌++◌, length, All};
 ghost use Rattle.token_system.specs.Stores.{StoreMap};
 ghost use Rattle.agent_core.specs.Closures.{roots};
@@ -12,11 +12,9 @@ ghost use Rattle.generated_laws.specs.GeneratedInputs.{IsParted, GivesSomeInput}
 ghost use Rattle.generated_laws.specs.GeneratedSurfaces.{surface};
 ghost use Rattle.generated_laws.specs.GeneratedTables.{table, IsSmall};
 
-/// The generated text of each number is accepted as a program text: its surface has 32 signals, 8 numbers from 0 to 99,
-/// and the forms of the 39 parts that were drawn. So is the line that the text is, with its line feed. The core program of
-/// that is far below all limits, and has strata. Where a mark stands between the text and the trace, as one input, that line
-/// and the lines of the trace are what it is parted into, and each of these lines gives an input of the core program. After any
-/// closed stores an instant of that program has at most as many leaves as there are nodes, and so no more agents run in it.
+/// No generated program is refused, and no run of one ends before its trace does: the text is read and expanded, each line
+/// gives an input, and no instant comes near a limit, whatever was output before it. A surface of a generated text has 32
+/// signals, 8 numbers from 0 to 99 and 39 units, with or without a line feed behind the text.
 pub fn generated_law()
     ensures reads { (n : ℕ) → ReadsAs Program (program_text n) (surface n) }
     ensures reads_line { (n : ℕ) → ReadsAs Program (program_text n ++ 10 ∷ []) (surface n) }

@@ -68,7 +68,7 @@ impl Words {
         self.list.as_slice()
     }
 
-    // The content of a word.
+    /// The content of a word.
     fn at(&self, word: u32) -> u64
         requires { word < length self.now }
         ensures { result ≡ slice_index self.now word }
@@ -76,7 +76,7 @@ impl Words {
         self.list[word as usize]
     }
 
-    // Tells the bits to the word.
+    /// Tells the bits to the word.
     fn take(&mut self, told: Told)
         requires { told.word < length self.old }
         ensures { self.new ≡ tell_word self.old told }

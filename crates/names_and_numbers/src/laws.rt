@@ -1,4 +1,4 @@
-// The laws of names and numbers, each proved as the contract of a function with no body.
+//! The laws of names and numbers, each proved as the contract of a function with no body.
 ghost use Rattle.std.specs.Prelude.{◌≡◌};
 ghost use Rattle.names_and_numbers.specs.Limits.{longest_name, most_digits};
 

@@ -1,4 +1,4 @@
-// The classes of bytes that names and numbers are made of.
+//! The classes of bytes that names and numbers are made of.
 ghost use Rattle.std.specs.Prelude.{◌≡◌, ◌≤◌, length};
 ghost use Rattle.names_and_numbers.specs.Names.{is_digit, is_letter, is_word_byte};
 ghost use Rattle.names_and_numbers.specs.Prefixes.{prefix_len};

@@ -1,4 +1,4 @@
-// How long names and numbers may be.
+//! How long names and numbers may be.
 
 /// The most bytes that a name may have.
 pub const LONGEST_NAME: usize = 32;

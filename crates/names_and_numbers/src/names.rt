@@ -1,4 +1,4 @@
-// Names: a letter, then letters, digits and `_`.
+//! Names: a letter, then letters, digits and `_`.
 ghost use Rattle.std.specs.Prelude.{◌≡◌};
 ghost use Rattle.std.specs.List.{list_all};
 ghost use Rattle.names_and_numbers.specs.Names.{is_name, is_word_byte};
@@ -6,7 +6,7 @@ ghost use Rattle.names_and_numbers.specs.Names.{is_name, is_word_byte};
 use crate::letters::{is_letter, is_word_byte};
 use crate::limits::LONGEST_NAME;
 
-// Whether each byte may stand in a word, behind its first byte.
+/// Whether each byte may stand in a word, behind its first byte.
 fn are_word_bytes(bytes: &[u8]) -> bool
     ensures { result ≡ list_all is_word_byte bytes.now }
 {

@@ -1,4 +1,4 @@
-// Numbers: digits, or a minus and digits.
+//! Numbers: digits, or a minus and digits.
 ghost use Rattle.std.specs.Prelude.{◌≡◌, ◌≤◌, ◌<◌, ◌^◌, length, nat_abs, true, IfSome};
 ghost use Rattle.std.specs.List.{list_all};
 ghost use Rattle.std.specs.Str.Parse.{digits_value};
@@ -19,7 +19,7 @@ pub fn digits_of(number: &[u8]) -> &[u8]
     }
 }
 
-// The number that at most nine digits write.
+/// The number that at most nine digits write.
 fn digits_value(digits: &[u8]) -> u32
     requires all { are_digits digits.now ≡ true }
     requires few { length digits.now ≤ most_digits }
@@ -48,14 +48,14 @@ pub fn number_value(bytes: &[u8]) -> i64
     }
 }
 
-// Whether each byte is a digit.
+/// Whether each byte is a digit.
 fn are_all_digits(bytes: &[u8]) -> bool
     ensures { result ≡ list_all is_digit bytes.now }
 {
     bytes.iter().all(|byte| is_digit(*byte))
 }
 
-// Whether the bytes are digits, one at least and nine at most.
+/// Whether the bytes are digits, one at least and nine at most.
 fn are_few_digits(bytes: &[u8]) -> bool
     ensures { result ≡ are_few_digits bytes.now }
 {

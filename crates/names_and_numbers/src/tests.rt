@@ -1,4 +1,4 @@
-// Names and numbers, worked out by hand.
+//! Names and numbers, worked out by hand.
 use super::*;
 
 #[test]

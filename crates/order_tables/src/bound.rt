@@ -1,3 +1,5 @@
+//! A bound between the numbers of two items.
+
 /// A bound from one item to another. It asks that the number of `high` be at least that of `low`,
 /// and greater where the bound is negative.
 #[derive(Clone, Copy, Debug)]

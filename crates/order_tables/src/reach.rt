@@ -1,3 +1,4 @@
+//! What each item leads to along the bounds.
 ghost use Rattle.std.specs.Prelude.{◌≡◌, ◌≤◌, ◌<◌, ◌^◌, ◌↔◌, [], ℕ, List, All, IfOk, IsTrue, length};
 ghost use Rattle.order_tables.specs.Bounds.{Within};
 ghost use Rattle.order_tables.specs.Reaching.{list_at, has, AreNexts, AreItems, AreReaching, LeadsTo, IsMarked};

@@ -1,3 +1,4 @@
+//! The least numbers that satisfy bounds.
 ghost use Rattle.std.specs.Prelude.{◌≡◌, ◌<◌, ◌^◌, ℕ, List, All, IfOk, length};
 ghost use Rattle.order_tables.specs.Bounds.{needs, Satisfies, Within, HasTable, IsLeast, IsRaised, IsPassed};
 

@@ -1,4 +1,4 @@
-// The laws of the grammar: facts about its definitions, each proved as the contract of a function with no body.
+//! The laws of the grammar: facts about its definitions, each proved as the contract of a function with no body.
 ghost use Rattle.std.specs.Prelude.{◌≡◌, ◌⊎◌, ◌↔◌, ℕ, List, [], map};
 ghost use Rattle.program_grammar.specs.Alternatives.{AProgram, Begins};
 ghost use Rattle.program_grammar.specs.Events.{event_at, numbered, program_events, matched_terms};

@@ -1,4 +1,4 @@
-// The reading machine: a stack of the parts that are still to come, and a list of the steps that were taken.
+//! The reading machine: a stack of the parts that are still to come, and a list of the steps that were taken.
 ghost use Rattle.std.specs.Prelude.{◌≡◌, ◌++◌, ◌<◌, ◌^◌, IfErr, IfOk, IsTrue, Some, None, List, length, map, reverse, MatchBool, MatchResult, OnOk};
 ghost use Rattle.program_grammar.specs.Machine.{Ends, StopsAt, ended, feed_in, start, trace, word_steps};
 ghost use Rattle.program_grammar.specs.Phrases.{ProgramPhrase};

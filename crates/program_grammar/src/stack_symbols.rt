@@ -1,4 +1,4 @@
-// The parts of the grammar.
+//! The parts of the grammar.
 ghost use Rattle.std.specs.Prelude.{◌≡◌};
 ghost use Rattle.program_grammar.specs.Machine.{may_end};
 

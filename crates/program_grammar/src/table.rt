@@ -1,4 +1,4 @@
-// The table of the reading machine: what is to come after a word, where a part of the grammar takes it.
+//! The table of the reading machine: what is to come after a word, where a part of the grammar takes it.
 ghost use Rattle.std.specs.Prelude.{◌≡◌, option_copied};
 ghost use Rattle.program_grammar.specs.Table.{stack_after, after_bound, after_branch, after_declaration, after_items, after_kind, after_names, after_token, after_tokens, after_unit, after_units};
 

@@ -1,4 +1,4 @@
-// Places of faults and steps, worked out by hand from the grammar.
+//! Places of faults and steps, worked out by hand from the grammar.
 use super::Word::{
     Always, Ampersand, Bang, Bars, CloseBrace, Colon, Comma, Do, Else, Equal, GreaterEqual, Hash,
     Hence, If, In, Int, LessEqual, Name, New, Next, Number, On, OpenBrace, Range, Semicolon, Set,

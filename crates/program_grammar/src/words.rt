@@ -1,4 +1,4 @@
-// The words that the grammar reads, and the languages that it reads them in.
+//! The words that the grammar reads, and the languages that it reads them in.
 ghost use Rattle.std.specs.Prelude.{◌≡◌};
 ghost use Rattle.program_grammar.specs.Machine.{permits};
 

@@ -1,4 +1,4 @@
-// The forms of texts, and the bytes that stand between lexemes or begin a name of a core text.
+//! The forms of texts, and the bytes that stand between lexemes or begin a name of a core text.
 ghost use Rattle.std.specs.Prelude.{◌≡◌};
 ghost use Rattle.program_lexemes.specs.Forms.{is_dollar, is_white};
 

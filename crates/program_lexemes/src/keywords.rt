@@ -1,4 +1,4 @@
-// Keywords, told by their bytes.
+//! Keywords, known by their bytes.
 ghost use Rattle.std.specs.Prelude.{◌≡◌, IfNone, IfSome};
 ghost use Rattle.program_lexemes.specs.Spellings.{keyword_bytes};
 ghost use Rattle.program_lexemes.specs.declared.keywords.Keyword.{Keyword};

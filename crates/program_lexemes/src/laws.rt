@@ -1,4 +1,4 @@
-// The laws of lexemes: facts about their definitions, each proved as the contract of a function with no body.
+//! The laws of lexemes: facts about their definitions, each proved as the contract of a function with no body.
 ghost use Rattle.std.specs.Prelude.{◌≡◌, ◌⊎◌, ◌↔◌, ◌<◌, ◌^◌, ℕ, List, Some, decimal, false, neg_ℤ, pos, true, ◌∷◌};
 ghost use Rattle.program_lexemes.specs.Forms.{kind_of};
 ghost use Rattle.program_lexemes.specs.Lexemes.{AreLexemes, IsBad};
@@ -25,7 +25,7 @@ pub fn joined_law()
         → AreLexemes form (spaced_text ps) (spans 0 ps) }
 {}
 
-/// Keywords and symbols are told apart by their spelling.
+/// No two keywords or symbols have one spelling.
 pub fn spellings_law()
     ensures keywords { (k : Keyword) → keyword_named (keyword_bytes k) ≡ Some k }
     ensures symbols { (s : Symbol) → symbol_named (symbol_bytes s) ≡ Some s }

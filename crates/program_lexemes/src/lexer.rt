@@ -1,4 +1,4 @@
-// The lexer: the longest lexeme at each place of a text.
+//! The lexer: the longest lexeme at each place of a text.
 ghost use Rattle.std.specs.Prelude.{◌≡◌, ◌≤◌, All, IfErr, IfOk, List, MatchBool, MatchOption, MatchResult, false, length, take, true, vec_len};
 ghost use Rattle.program_lexemes.specs.Forms.{word_kind};
 ghost use Rattle.program_lexemes.specs.Lexemes.{AreLexemes, IsBad, IsLexFault, IsIn, IsLongest, NoLexeme};

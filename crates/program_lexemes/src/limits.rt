@@ -1,4 +1,4 @@
-// How long texts may be.
+//! How long texts may be.
 
 /// The most bytes that a program text may have.
 pub const LONGEST_PROGRAM_TEXT: usize = 65_536;

@@ -1,4 +1,4 @@
-// What a lexeme says: its bytes, and whether it is too long.
+//! What a lexeme says: its bytes, and whether it is too long.
 ghost use Rattle.std.specs.Prelude.{◌≡◌, ◌≤◌, length};
 ghost use Rattle.program_lexemes.specs.Lexemes.{bytes_of_lexeme};
 ghost use Rattle.program_lexemes.specs.Numbers.{is_long};

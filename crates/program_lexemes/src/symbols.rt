@@ -1,4 +1,4 @@
-// Symbols, told by their bytes.
+//! Symbols, known by their bytes.
 ghost use Rattle.std.specs.Prelude.{◌≡◌, IfNone, IfSome};
 ghost use Rattle.program_lexemes.specs.Spellings.{symbol_bytes};
 ghost use Rattle.program_lexemes.specs.declared.symbols.Symbol.{Symbol};

@@ -1,4 +1,4 @@
-// Lexemes of short texts, worked out by hand from their forms.
+//! Lexemes of short texts, worked out by hand from their forms.
 use super::*;
 use std::alloc::Global;
 use std::test::Fail;

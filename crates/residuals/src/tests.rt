@@ -1,3 +1,4 @@
+//! The roots of next instants, worked out by hand.
 ghost use Rattle.std.specs.Prelude.{◌≡◌, ℕ, List, ◌+◌, IfOk, length};
 ghost use Rattle.token_system.specs.Stores.{StoreMap};
 ghost use Rattle.agent_core.specs.Closures as closures;

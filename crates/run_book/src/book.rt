@@ -26,7 +26,7 @@ pub struct Book {
     entries: Entries,
 }
 
-// What each closed instant adds to, and the roots of the next.
+/// What each closed instant adds to, and the roots of the next.
 #[derive(Debug, Drop)]
 struct Entries {
     ins: Vec<Store>,
@@ -54,6 +54,7 @@ impl Book {
         ensures opened { IfOk result (λ b. b ≡ record { program = program; levels = levels; ins = []; outs = []; roots = record { once = closure 0 [] ∷ []; stay = [] } }) }
         ensures keeps { IfOk result (λ b. KeepsRun b []) }
     {
+        // For what this call says of the program: it is well formed.
         let _ = program.declared();
         let entries = Entries {
             ins: Vec::new(alloc),
@@ -133,7 +134,7 @@ impl Book {
 }
 
 impl Entries {
-    // Adds an instant, and replaces the roots. Where memory is short, all stays as it was.
+    /// Adds an instant, and replaces the roots. Where memory is short, all stays as it was.
     fn push(&mut self, input: Store, out: Store, next: Roots) -> Result<(), Memory>
         ensures ins { self.new.ins.items ≡ (if is_ok result then self.old.ins.items ++ input ∷ [] else self.old.ins.items) }
         ensures outs { self.new.outs.items ≡ (if is_ok result then self.old.outs.items ++ out ∷ [] else self.old.outs.items) }

@@ -1,3 +1,4 @@
+//! Books of short runs, worked out by hand.
 use crate::Book;
 use agent_core::{CellDecl, Constraint, Name, Node, Program};
 use agent_laws::{by_roots_law, one_output_law};

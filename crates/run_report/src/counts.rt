@@ -17,7 +17,7 @@ pub struct Report {
 }
 
 impl Report {
-    // Counts one more ask that is reached: an else's or a then's, which the output entails or does not.
+    /// Counts one more ask that is reached: an else's or a then's, which the output entails or does not.
     pub(crate) fn count(&mut self, is_else: bool, entailed: bool)
         requires confirmed { self.old.confirmed + 1 < 2 ^ 64 }
         requires refuted { self.old.refuted + 1 < 2 ^ 64 }

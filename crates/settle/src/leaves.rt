@@ -21,7 +21,7 @@ pub(crate) fn is_due(net: &Net, words: &Words, leaf: u32, stratum: u32) -> bool
     is_upto(net.level(leaf), stratum) && runs(net, words, leaf) && !has_told(net, words, leaf)
 }
 
-// Whether there is a level, and it is at most the stratum.
+/// Whether there is a level, and it is at most the stratum.
 fn is_upto(level: Option<u32>, stratum: u32) -> bool
     ensures { result ≡ ways.is_level_upto stratum level }
 {
@@ -31,7 +31,7 @@ fn is_upto(level: Option<u32>, stratum: u32) -> bool
     }
 }
 
-// Whether the words entail each token that the leaf tells.
+/// Whether the words entail each token that the leaf tells.
 fn has_told(net: &Net, words: &Words, leaf: u32) -> bool
     requires leaf { leaf < length net.now.leaves }
     requires words { AreWords net.now.cells words.now }

@@ -10,9 +10,8 @@ ghost use Rattle.settle.specs.Ways as ways;
 use crate::leaves::is_due;
 use instant_net::{Net, Words, tell};
 
-/// Completes the stratum: from words on the way to the output of a stratified net that have all of the strata below this
-/// one, to words on that way that have this stratum too. The same words serve each input and output that they lie
-/// between.
+/// Completes one stratum: passes over the leaves until a pass tells nothing. Which input the words began with need not be
+/// known; what is reached serves each input and output that they lie between.
 pub fn settle_stratum(net: &Net, words: &mut Words, stratum: u32)
     requires words { AreWords net.now.cells words.old }
     ensures words { AreWords net.now.cells words.new }
@@ -26,8 +25,8 @@ pub fn settle_stratum(net: &Net, words: &mut Words, stratum: u32)
     }
 }
 
-/// Completes the instant: from words that lie between the input and the output of a stratified net, and have all that the
-/// output has of the strata below `from`, to the words of the output.
+/// Completes the instant, stratum by stratum from `from` up. That is 0 where the words are those of the input, and greater
+/// where they are known to have the lower strata whole.
 pub fn settle(net: &Net, words: &mut Words, from: u32)
     requires words { AreWords net.now.cells words.old }
     ensures words { AreWords net.now.cells words.new }
@@ -40,8 +39,8 @@ pub fn settle(net: &Net, words: &mut Words, from: u32)
     }
 }
 
-// Tells, one after the other, each leaf that is due when its turn comes, and says whether there was one. Where there was,
-// fewer leaves tell something that the words do not entail.
+/// Tells, one after the other, each leaf that is due when its turn comes, and says whether there was one. Where there was,
+/// fewer leaves tell something that the words do not entail.
 fn tell_due(net: &Net, words: &mut Words, stratum: u32) -> bool
     requires words { AreWords net.now.cells words.old }
     ensures words { AreWords net.now.cells words.new }

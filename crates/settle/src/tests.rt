@@ -1,3 +1,4 @@
+//! Completed instants, worked out by hand.
 ghost use Rattle.std.specs.Prelude.{◌≡◌, ◌≤◌, IfOk, length, All};
 ghost use Rattle.std.specs.List.Sorted.{IsStrictlySortedBy};
 ghost use Rattle.agent_core.specs.Closures.{closure_cmp};

@@ -1,3 +1,4 @@
+//! The bounds between the cells and nodes of a program.
 ghost use Rattle.std.specs.Prelude.{◌≡◌, ◌<◌, ◌+◌, ◌^◌, ◌++◌, false, [], ◌∷◌, IfOk, OnOk, length, map};
 ghost use Rattle.strata.specs.Items.{bound, node_bounds, program_bounds, NodeInside, AllInside};
 

@@ -1,3 +1,4 @@
+//! Why a program has no strata.
 ghost use Rattle.std.specs.Prelude.{◌≡◌};
 ghost use Rattle.strata.specs.declared.fault.StrataFault.TheVariants.{Memory};
 

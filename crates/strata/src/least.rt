@@ -1,3 +1,4 @@
+//! The least strata of a program.
 ghost use Rattle.std.specs.Prelude.{IfErr, IfOk};
 ghost use Rattle.agent_core.specs.Strata.{Stratifies, IsLeastTable};
 ghost use Rattle.strata.specs.Answers.{NamesFirstCase, SaysNoTable, HasNoFirstCase};

@@ -1,3 +1,4 @@
+//! The first case by which a program has no strata.
 ghost use Rattle.std.specs.Prelude.{◌≡◌, ◌<◌, length, map};
 ghost use Rattle.agent_core.specs.Listing.{IsListing};
 ghost use Rattle.agent_core.specs.Strata.{cases};

@@ -1,3 +1,4 @@
+//! Strata and refusals, worked out by hand.
 use crate::{StrataFault, strata};
 use agent_core::{CellDecl, Constraint, Levels, Name, Node, Program};
 use std::alloc::Global;

@@ -1,4 +1,4 @@
-// The laws of surfaces, each proved as the contract of a function with no body.
+//! The laws of surfaces, each proved as the contract of a function with no body.
 ghost use Rattle.std.specs.Prelude.{ℕ, List};
 ghost use Rattle.tdcc_reader.specs.declared.dialect.Dialect.{Dialect};
 ghost use Rattle.tdcc_reader.specs.Dialects.{text_form};

@@ -1,3 +1,4 @@
+//! What was read of an input and is not handed out yet.
 ghost use Rattle.std.specs.Prelude.{◌≡◌, ◌<◌, ◌≤◌, Ok, Err, Some, IfOk, IfSome, IsNone, IsErrOf, [], length, drop, vec_len, vec_capacity};
 ghost use Rattle.std.specs.Result.{result_err};
 ghost use Rattle.tdcc_base.specs.Causes.{HasReadCause, Rose};

@@ -1,3 +1,4 @@
+//! The calls of a device in memory, some of which fail.
 ghost use Rattle.std.specs.Prelude.{◌≡◌, ◌≤◌, ◌↔◌, IsTrue};
 ghost use Rattle.tdcc_base.specs.Causes.{next_count};
 

@@ -1,3 +1,4 @@
+//! A gate that workers pass, by which a test may order their acts.
 ghost use Rattle.std.specs.Prelude.{ℕ, ◌<◌};
 
 /// Something that has done acts, which can be counted.

@@ -1,3 +1,4 @@
+//! How long texts and lines may be, and how much is read at once.
 ghost use Rattle.std.specs.Prelude.{◌≡◌};
 ghost use Rattle.tdcc_base.specs.Limits.{longest_text, longest_line, read_size, room_for_text};
 

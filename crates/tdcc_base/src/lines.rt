@@ -1,3 +1,4 @@
+//! An input as its text and lines.
 ghost use Rattle.std.specs.Prelude.{◌≡◌, ◌<◌, ◌≤◌, Ok, Err, IfOk, IfSome, IsNone, IsErrOf, length};
 ghost use Rattle.std.specs.Result.{result_err};
 ghost use Rattle.tdcc_base.specs.Causes.{HasReadCause, Rose};
@@ -14,7 +15,7 @@ use std::alloc::Global;
 ///
 /// The text ends before the first line that is `%%`, or `%%` and a carriage return. It has at most
 /// 65,536 bytes, the line feed before the mark included. A line has at most 32,768 bytes without its
-/// line feed, or as many as `with_limit` was told. A last line without a line feed counts where it is not empty.
+/// line feed, or as many as `with_limit` was given. A last line without a line feed counts where it is not empty.
 ///
 /// Each read asks for 4,096 bytes, and is made only where what is held back has no whole line, or for the
 /// text no mark with its line feed. After a read that failed, or answered that the source is at its end, none is made.

@@ -1,3 +1,4 @@
+//! Sources and sinks: where bytes come from and go to.
 ghost use Rattle.std.specs.Prelude.{◌<◌, ◌≤◌, Bool, List, ℕ, Option, Result, IfOk, IsErr, length};
 ghost use Rattle.std.specs.Io.{ReadsAtMost};
 ghost use Rattle.std.specs.Io.KnownBytes.{ReadConsumes, WriteAppends};

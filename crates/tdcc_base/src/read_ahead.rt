@@ -1,3 +1,4 @@
+//! The bytes of a source one by one, and lines within a limit.
 ghost use Rattle.std.specs.Prelude.{◌≡◌, ◌-◌, ◌<◌, ◌≤◌, true, false, is_err, IfOk, OnErr, IsErr, IsErrOf, IsSome, [], ◌∷◌, ◌++◌, length, vec_len, vec_capacity};
 ghost use Rattle.std.specs.Bool.{MatchBool};
 ghost use Rattle.std.specs.Io.KnownBytes.{Keeps, IsAtEnd};

@@ -1,3 +1,5 @@
+//! How a command ends.
+
 /// How a command ended.
 #[derive(Clone, Copy, Debug, PartialEq, Eq)]
 pub enum Status {

@@ -1,3 +1,4 @@
+//! How the reading of a text or a line ends, and why reading stops.
 use thiserror::Error;
 
 /// How the reading of a text ended.

@@ -1,3 +1,4 @@
+//! Inputs in pieces, and devices that fail.
 ghost use Rattle.std.specs.Prelude.{◌<◌, IfOk, IsTrue};
 
 use crate::{

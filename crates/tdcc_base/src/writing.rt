@@ -1,3 +1,4 @@
+//! Writing all bytes.
 ghost use Rattle.std.specs.Prelude.{OnOk, OnErr, length};
 ghost use Rattle.std.specs.Io.KnownBytes.{Appends};
 ghost use Rattle.tdcc_base.specs.Causes.{HasCause};

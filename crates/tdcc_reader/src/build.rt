@@ -1,4 +1,4 @@
-// The flat forms of a program, from its steps.
+//! The flat forms of a program, from its steps.
 ghost use Rattle.std.specs.Prelude.{◌≡◌, ◌∷◌, ◌≤◌, [], IfOk, OnOk, length, map};
 ghost use Rattle.program_grammar.specs.Phrases.{ProgramPhrase};
 ghost use Rattle.program_grammar.specs.Programs.{Spells};

@@ -1,4 +1,4 @@
-// The cells that declarations make.
+//! The cells that declarations make.
 ghost use Rattle.std.specs.Prelude.{◌≡◌, ℕ, List};
 ghost use Rattle.token_system.specs.Domain.{is_cell};
 ghost use Rattle.token_system.specs.declared.cell.Kind.TheVariants as Kind;

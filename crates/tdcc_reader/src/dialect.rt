@@ -1,4 +1,4 @@
-// The dialects of texts, and what each allows.
+//! The dialects of texts, and what each allows.
 ghost use Rattle.std.specs.Prelude.{◌≡◌};
 ghost use Rattle.tdcc_reader.specs.Dialects.{language, max_bytes, max_depth, max_tokens, text_form};
 

@@ -1,4 +1,4 @@
-// What is read of a text, from what is built.
+//! What is read of a text, from what is built.
 ghost use Rattle.std.specs.Prelude.{◌≡◌, ℕ, List, IfErr, IfOk};
 ghost use Rattle.program_grammar.specs.Phrases.{ProgramPhrase};
 ghost use Rattle.tdcc_reader.specs.BuildPass.{built_view};

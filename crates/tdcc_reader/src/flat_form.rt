@@ -1,4 +1,4 @@
-// Forms while they are read.
+//! Forms while they are read.
 ghost use Rattle.std.specs.Prelude.{◌≡◌, ◌+◌, All, IfOk, map};
 ghost use Rattle.tdcc_reader.specs.FlatForms.{HasConstraint, IsWholeFlatForm, flat_form_view, form_at, forms_at, link};
 

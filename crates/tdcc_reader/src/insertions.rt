@@ -1,4 +1,4 @@
-// Flat forms in the order in which they come.
+//! Flat forms in the order in which they come.
 ghost use Rattle.std.specs.Prelude.{◌≡◌, ◌∷◌, ◌++◌, ◌<◌, ◌+◌, ◌*◌, [], false, IfOk, IsTrue, List, OnOk, length, map};
 ghost use Rattle.tdcc_reader.specs.Insertions.{PlacesInOrder, inserted_views, goes_in};
 ghost use Rattle.tdcc_reader.specs.FlatForms.{Entry, flat_form_view};

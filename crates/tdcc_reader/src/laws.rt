@@ -1,4 +1,4 @@
-// The laws of refusals, each proved as the contract of a function with no body.
+//! The laws of refusals, each proved as the contract of a function with no body.
 ghost use Rattle.std.specs.Prelude.{◌≡◌, List, ℕ};
 ghost use Rattle.tdcc_reader.specs.declared.dialect.Dialect.{Dialect};
 ghost use Rattle.tdcc_reader.specs.Laws.{AcceptedIsNotRefused, HasOneRefusal, HasVerdict};

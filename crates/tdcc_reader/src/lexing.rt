@@ -1,4 +1,4 @@
-// The terms of a text, with the refusals that need no grammar.
+//! The terms of a text, with the refusals that need no grammar.
 ghost use Rattle.std.specs.Prelude.{◌≡◌, ◌≤◌, ◌<◌, ◌^◌, All, IfErr, IfOk, List, MatchResult, Some, length, map, position, vec_len};
 ghost use Rattle.program_grammar.specs.Terms.{Term as GrammarTerm};
 ghost use Rattle.program_lexemes.specs.Lexemes.{IsIn};

@@ -1,4 +1,4 @@
-// The limits of a program of a dialect: the first unit that is too deep, or the first token that is one too many.
+//! The limits of a program of a dialect: the first unit that is too deep, or the first token that is one too many.
 ghost use Rattle.std.specs.Prelude.{◌≡◌, ◌<◌, ◌^◌, IfErr, IfOk, IsOk, None, if◌then◌else◌, map};
 ghost use Rattle.program_grammar.specs.Phrases.{ProgramPhrase};
 ghost use Rattle.program_grammar.specs.Programs.{Spells};

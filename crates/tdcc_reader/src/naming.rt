@@ -1,5 +1,5 @@
-// The names of a program: the first one that is declared twice, not at all or as something else, or the first empty
-// domain.
+//! The names of a program: the first one that is declared twice, not at all or as something else, or the first empty
+//! domain.
 ghost use Rattle.std.specs.Prelude.{◌≡◌, IfErr, IfOk, None, OnOk, [], map};
 ghost use Rattle.program_grammar.specs.Phrases.{ProgramPhrase};
 ghost use Rattle.program_grammar.specs.Programs.{Spells};

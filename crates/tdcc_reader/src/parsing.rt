@@ -1,4 +1,4 @@
-// The steps of a program of a dialect, with the refusals of its grammar.
+//! The steps of a program of a dialect, with the refusals of its grammar.
 ghost use Rattle.std.specs.Prelude.{◌≡◌, ◌≤◌, ◌<◌, ◌^◌, IfErr, IfOk, MatchResult, length, map, position};
 ghost use Rattle.program_grammar.specs.Phrases.{ProgramPhrase};
 ghost use Rattle.program_grammar.specs.Reading.{AreSteps};

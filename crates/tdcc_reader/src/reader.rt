@@ -1,4 +1,4 @@
-// A text, read.
+//! A text, read.
 ghost use Rattle.std.specs.Prelude.{◌≡◌, ◌≤◌, IfErr, IfOk, MatchResult, None, length, map};
 ghost use Rattle.program_grammar.specs.Phrases.{ProgramPhrase};
 ghost use Rattle.program_grammar.specs.Reading.{AreSteps};

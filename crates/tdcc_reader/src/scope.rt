@@ -1,4 +1,4 @@
-// The names in scope, each with what it means.
+//! The names in scope, each with what it means.
 ghost use Rattle.std.specs.Prelude.{◌≡◌, ◌∷◌, [], ℕ, IsSome, List, OnOk, bytes_eq};
 ghost use Rattle.std.specs.Map.{update};
 ghost use Rattle.tdcc_reader.specs.Meanings.{indexed, meaning_of};

@@ -1,4 +1,4 @@
-// The surface of a program: its cells and its forms.
+//! The surface of a program: its cells and its forms.
 ghost use Rattle.std.specs.Prelude.{◌≡◌};
 ghost use Rattle.tdcc_reader.specs.Texts.{IsSurface};
 

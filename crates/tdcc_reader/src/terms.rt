@@ -1,4 +1,4 @@
-// The terms of a text: what its lexemes say.
+//! The terms of a text: what its lexemes say.
 ghost use Rattle.std.specs.Prelude.{◌≡◌, ◌<◌, ◌^◌, All, IfErr, IfOk, MatchResult, None, Some, false, get_or, length, map, position};
 ghost use Rattle.program_grammar.specs.Terms.{Skip, class_of, classes};
 ghost use Rattle.program_lexemes.specs.Forms.{kind_of};

@@ -1,4 +1,4 @@
-// Refusals and their places, worked out by hand from the grammar.
+//! Refusals and their places, worked out by hand from the grammar.
 use super::*;
 use std::alloc::Global;
 use std::test::Fail;

@@ -1,3 +1,4 @@
+//! The law of what `core` writes, proved as the contract of a function.
 ghost use Rattle.std.specs.Prelude.{◌≡◌, ◌⊎◌, ℕ, List, Result};
 ghost use Rattle.agent_core.specs.Programs.{CoreProgram};
 ghost use Rattle.core_text.specs.CoreTexts.{core_text};

@@ -1,3 +1,4 @@
+//! The laws of the tool's answers, each proved as the contract of a function.
 ghost use Rattle.std.specs.Prelude.{◌≡◌, List, ℕ};
 ghost use Rattle.tdcc_base.specs.Limits.{longest_line, longest_text};
 ghost use Rattle.program_lexemes.specs.Limits.{longest_program_text};
@@ -24,6 +25,7 @@ pub fn workers_law(words: &[String], others: &[String])
     ensures { DifferInWorkers words.now others.now → HaveSameAnswers words.now others.now }
 {
     same_command_law();
+    // The law speaks of the words, and nothing is done with them.
     let _ = words.len();
     let _ = others.len();
 }

@@ -48,7 +48,8 @@ fn write_report(instant: u32, counts: Report, into: &mut Vec<u8>) -> Result<(), 
     Ok(())
 }
 
-/// Appends what is written of the instant that the book closed last, whose net and final words these are.
+/// Appends the line of the instant that the book closed last, with its line feed. `net` and `words` are that instant at
+/// rest: a report counts them, and a store is read off the book, which has the declared cells alone.
 pub fn write_line(
     mode: OutputMode,
     book: &Book,

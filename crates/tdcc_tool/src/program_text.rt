@@ -21,6 +21,7 @@ pub fn program_of(alloc: Global, text: &[u8]) -> Result<Program, ReadFault>
     let surface = read_surface(alloc, text)?;
     match expand(alloc, &surface) {
         Ok(program) => {
+            // For what this call says of the program: it is well formed.
             let _ = program.nodes();
             Ok(program)
         }

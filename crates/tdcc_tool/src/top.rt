@@ -1,3 +1,4 @@
+//! The whole tool: its words, its source, its answer and its status.
 ghost use Rattle.std.specs.Prelude.{◌≡◌, ◌≢◌, ◌↔◌, ℕ, List, [], IfSome, OnSome, IsTrue, Some};
 ghost use Rattle.std.specs.Io.KnownBytes.{Appends, Consumes};
 ghost use Rattle.tdcc_base.specs.Causes.{Rose};

@@ -38,7 +38,7 @@ fn run_line(alloc: Global, state: &mut RunState, line: &[u8]) -> Result<Option<R
     }
 }
 
-/// Answers the lines of the trace, from the state of a run that begins.
+/// Closes an instant for each line, up to the end of the trace or to the line that ends the run.
 fn run_trace<S: Source>(
     alloc: Global,
     start: RunState,

@@ -32,7 +32,7 @@ pub fn join(a: Value, b: Value) -> Value
     with_both(a, b)
 }
 
-// `leq`, case by case.
+/// `leq`, case by case.
 fn is_below(a: Value, b: Value) -> bool
     ensures { result ≡ value_leq a b }
 {
@@ -51,7 +51,7 @@ fn is_below(a: Value, b: Value) -> bool
     }
 }
 
-// `join`, case by case.
+/// `join`, case by case.
 fn with_both(a: Value, b: Value) -> Value
     ensures value { result ≡ value_join a b }
     ensures proper { IsProper result }
@@ -71,7 +71,7 @@ fn with_both(a: Value, b: Value) -> Value
     }
 }
 
-// A signal of which this is told.
+/// A signal of which this is told.
 fn signal(on: bool, off: bool) -> Value
     ensures value { result ≡ signal_of on off }
     ensures proper { IsProper result }
@@ -83,7 +83,7 @@ fn signal(on: bool, off: bool) -> Value
     }
 }
 
-// A number between these bounds.
+/// A number between these bounds.
 fn number(lo: i64, hi: i64) -> Value
     ensures value { result ≡ number_between lo hi }
     ensures proper { IsProper result }

@@ -37,7 +37,7 @@ pub fn read_token(bytes: &[u8]) -> Result<Written, Bad>
     }
 }
 
-// A name alone, after a mark.
+/// A name alone, after a mark.
 fn marked(name: &[u8], token: Token) -> Result<Written, Bad>
     ensures read { IfOk result (λ w. IsTrue (is_name name.now) × (w ≡ marked_name name.now token)) }
     ensures bad { IsErr result → is_name name.now ≡ false }
@@ -53,7 +53,7 @@ fn marked(name: &[u8], token: Token) -> Result<Written, Bad>
     })
 }
 
-// A name with what follows it.
+/// A name with what follows it.
 fn named(bytes: &[u8]) -> Result<Written, Bad>
     ensures read { IfOk result (IsNamed bytes.now) }
     ensures bad { IsErr result → (w : Written) → ¬ (IsNamed bytes.now w) }

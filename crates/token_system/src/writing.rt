@@ -21,7 +21,7 @@ pub fn token_text(name: &[u8], token: Token, into: &mut Vec<u8>) -> Result<(), M
     }
 }
 
-// Appends the four parts, or nothing.
+/// Appends the four parts, or nothing.
 fn append(
     mark: &[u8],
     name: &[u8],

@@ -1,3 +1,4 @@
+//! Why a trace line gives no input.
 ghost use Rattle.std.specs.Prelude.{◌≡◌};
 ghost use Rattle.trace_text.specs.declared.fault.LineFault.TheVariants.{Memory};
 

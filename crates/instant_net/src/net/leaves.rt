@@ -76,7 +76,7 @@ impl Net {
     }
 }
 
-// The lesser of the number and the other one, where there is one.
+/// The lesser of the number and the other one, where there is one.
 fn lesser(n: u32, other: Option<u32>) -> u32
     ensures { result ≡ lesser_of n other }
 {

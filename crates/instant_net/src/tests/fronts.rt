@@ -1,3 +1,4 @@
+//! What words say of the first cells of a net.
 ghost use Rattle.std.specs.Prelude.{IfOk};
 ghost use Rattle.instant_net.specs.Words.{AreWords};
 

@@ -30,7 +30,7 @@ pub fn open_words(alloc: Global, net: &Net, input: &Store) -> Result<Words, Memo
     Ok(words)
 }
 
-// The words of which nothing is told.
+/// The words of which nothing is told.
 fn untold(alloc: Global, net: &Net) -> Result<Words, Memory>
     ensures told { IfOk result (λ words. words ≡ empty_words net.now.cells) }
     ensures words { IfOk result (AreWords net.now.cells) }
@@ -42,7 +42,7 @@ fn untold(alloc: Global, net: &Net) -> Result<Words, Memory>
     Ok(Words { list })
 }
 
-// So many zeros, with room for so many words.
+/// So many zeros, with room for so many words.
 fn zeros(alloc: Global, count: u32, room: u32) -> Result<Vec<u64>, Memory>
     ensures { IfOk result (λ list. list.items ≡ replicate count 0) }
 {
@@ -53,7 +53,7 @@ fn zeros(alloc: Global, count: u32, room: u32) -> Result<Vec<u64>, Memory>
     Ok(list)
 }
 
-// Appends the words that the cell has for itself, where nothing is told of it.
+/// Appends the words that the cell has for itself, where nothing is told of it.
 fn push_own(list: &mut Vec<u64>, cell: Cell) -> Result<(), Memory>
     ensures { OnOk result (list.new.items ≡ list.old.items ++ own_unknown cell.kind cell.lo cell.hi) }
 {
@@ -64,7 +64,7 @@ fn push_own(list: &mut Vec<u64>, cell: Cell) -> Result<(), Memory>
     Ok(())
 }
 
-// The value that the store has for the named cell.
+/// The value that the store has for the named cell.
 fn value_of(store: &Store, name: &CellName, cell: Cell) -> Value
     ensures { result ≡ value_at store.now name.now cell }
 {
@@ -74,7 +74,7 @@ fn value_of(store: &Store, name: &CellName, cell: Cell) -> Value
     }
 }
 
-// Tells the cell's value.
+/// Tells the cell's value.
 fn tell_value(net: &Net, words: &mut Words, cell: u32, value: Value)
     requires net { IsNet net.now }
     requires value { (c : NetCell) × (slice_get net.now.cells cell ≡ Some c) × IsValueOf c.cell value }
@@ -96,7 +96,7 @@ fn tell_value(net: &Net, words: &mut Words, cell: u32, value: Value)
     }
 }
 
-// Tells the number's bounds.
+/// Tells the number's bounds.
 fn tell_bounds(net: &Net, words: &mut Words, cell: u32, lo: i64, hi: i64)
     requires net { IsNet net.now }
     requires value { (c : NetCell) × (slice_get net.now.cells cell ≡ Some c) × IsValueOf c.cell (Number lo hi) }
@@ -108,7 +108,7 @@ fn tell_bounds(net: &Net, words: &mut Words, cell: u32, lo: i64, hi: i64)
     tell_token(net, words, cell, Token::AtMost(hi));
 }
 
-// Tells the token of the cell.
+/// Tells the token of the cell.
 fn tell_token(net: &Net, words: &mut Words, cell: u32, token: Token)
     requires net { IsNet net.now }
     requires fits { (c : NetCell) × (slice_get net.now.cells cell ≡ Some c) × Fits c.cell token }
