@@ -20,6 +20,9 @@ pub mod NetOutputs
 pub mod PartTells
 pub mod Layouts
 pub mod WordPlaces
+pub mod PartOwners
+pub mod SeenFlags
+pub mod PartsInWords
 pub mod WordOrders
 pub mod WordValues
 pub mod StoreLookups
@@ -33,3 +36,8 @@ pub mod PathWalks
 pub mod KeptValues
 pub mod Openings
 pub mod OneNet
+pub mod LevelBounds
+pub mod OpenPaths
+pub mod JoinedWords
+pub mod SeenViews
+pub mod FewTokens

@@ -192,7 +192,7 @@ module _ (cells : List NetCell) (laid : AreLaidOut cells) (words : List ℕ) (ar
       abbrev bits : ℕ
       bits = told_bits c.cell.kind t
 
-      nth_within : nth < width c
+      pub nth_within : nth < width c
       nth_within = told_nth_within c.cell.kind t f
 
       pub told_as_part : told_as c t ≡ told_to (word_of (signals cells) (c.first + nth)) how (bits_of (signals cells) (c.first + nth) bits)
@@ -216,7 +216,7 @@ module _ (cells : List NetCell) (laid : AreLaidOut cells) (words : List ℕ) (ar
           go Number s = absurd (let o = is_other cells laid i c e s in omega arith)
 
       -- every other part is as before
-      other_part : (r : ℕ) → r ≢ c.first + nth → part_at (signals cells) after r ≡ content r
+      pub other_part : (r : ℕ) → r ≢ c.first + nth → part_at (signals cells) after r ≡ content r
       other_part r n = ap (λ ws. part_at (signals cells) ws r) after_is ∙ part_other (signals cells) (c.first + nth) how bits words fits_part (part_there nth nth_within) r n
 
       pub value_here : value_in after c ≡ value_with (value_in words c) t
@@ -238,7 +238,7 @@ module _ (cells : List NetCell) (laid : AreLaidOut cells) (words : List ℕ) (ar
       pub told_there : (told_as c t).word < length words
       told_there = subst (λ (x : Told). x.word < length words) (sym told_as_part) (part_there nth nth_within)
 
-      how_there : slice_index_or (hows cells) (told_as c t).word Or ≡ (told_as c t).how
+      pub how_there : slice_index_or (hows cells) (told_as c t).word Or ≡ (told_as c t).how
       how_there = ap (λ (x : Told). slice_index_or (hows cells) x.word Or) told_as_part ∙ go c.cell.kind refl f ∙ ap (λ (x : Told). x.how) (sym told_as_part)
         where
           go : (k : Kind) → c.cell.kind ≡ k → IsTrue (fits_kind k t) → slice_index_or (hows cells) (word_of (signals cells) (c.first + nth)) Or ≡ how

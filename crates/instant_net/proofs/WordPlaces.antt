@@ -45,7 +45,7 @@ as_many cells =
     omega (arith, length-append (replicate (signal_words (signals cells)) 0) (other_empty cells), length-append (replicate (signal_words (signals cells)) Or) (other_hows cells), length-replicate {A = ℕ} (signal_words (signals cells)) 0, length-replicate (signal_words (signals cells)) Or)
 
 -- the words of signals, and two for each other cell
-other_count : (cells : List NetCell) → length (other_hows cells) + 2 * signals cells ≡ 2 * length cells
+pub other_count : (cells : List NetCell) → length (other_hows cells) + 2 * signals cells ≡ 2 * length cells
 other_count [] = refl
 other_count (c ∷ cells) =
     let both = length-append (own_hows c.cell.kind) (other_hows cells) in
@@ -182,12 +182,12 @@ module _ (cells : List NetCell) (laid : AreLaidOut cells) where
 
 -- THE WORDS OF A CELL
 
-signal_word_within : (s q : ℕ) → q < s → (word_of s q < signal_words s) × (word_of s q ≡ q / 32)
+pub signal_word_within : (s q : ℕ) → q < s → (word_of s q < signal_words s) × (word_of s q ≡ q / 32)
 signal_word_within s q h =
     let t : word_of s q ≡ q / 32 = ap (λ b. if b then q / 32 else signal_words s + (q - s)) (signal_test s q h) in
     (omega arith, t)
 
-other_word : (s q : ℕ) → s ≤ q → word_of s q ≡ signal_words s + (q - s)
+pub other_word : (s q : ℕ) → s ≤ q → word_of s q ≡ signal_words s + (q - s)
 other_word s q h = ap (λ b. if b then q / 32 else signal_words s + (q - s)) (other_test s q h)
 
 module _ (cells : List NetCell) (laid : AreLaidOut cells) (k : ℕ) (c : NetCell) (e : slice_get cells k ≡ Some c) where

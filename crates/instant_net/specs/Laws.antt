@@ -1,5 +1,5 @@
 -- What is proved of the nets of a program's roots.
-use Rattle.std.specs.Prelude.{◌≡◌, ◌↔◌, ℕ, List}
+use Rattle.std.specs.Prelude.{◌≡◌, ◌↔◌, ◌≤◌, ℕ, List, length, slice_get}
 use Rattle.std.specs.List.{list_all}
 use Rattle.token_system.specs.Stores.{StoreMap}
 use Rattle.agent_core.specs.declared.node.Closure.{Closure}
@@ -11,8 +11,9 @@ use Rattle.agent_core.specs.Leaves as core
 use Rattle.agent_laws.specs.LeafRests as core_rests
 use Rattle.instant_net.specs.NamedLeaves.{leaves_rest}
 use Rattle.instant_net.specs.Nets.{Flat, net_leaves}
-use Rattle.instant_net.specs.Opened.{IsNetOf}
+use Rattle.instant_net.specs.Opened.{IsNet, IsNetOf}
 use Rattle.instant_net.specs.Outputs.{IsNetOutput, IsStratified}
+use Rattle.instant_net.specs.Readers.{leaf_tells_of}
 
 -- where the table stratifies the program, the net of any roots is stratified
 abbrev pub NetsAreStratified : Type 0
@@ -40,3 +41,7 @@ NetsHaveRootOutputs =
 abbrev pub RootsHaveOneNet : Type 0
 RootsHaveOneNet =
     (p : CoreProgram) (table : List ℕ) (rs : List Closure) (t : ℕ) (net net' : Flat) → IsNetOf p table rs t net → IsNetOf p table rs t net' → net ≡ net'
+
+-- a leaf of a net tells 16 tokens at most
+abbrev pub LeavesTellFew : Type 0
+LeavesTellFew = (net : Flat) → IsNet net → (leaf : ℕ) → length (leaf_tells_of (slice_get net.leaves leaf)) ≤ 16

@@ -5,6 +5,9 @@ pub mod Readers
 pub mod Programs
 pub mod WordParts
 pub mod Words
+pub mod PartLists
+pub mod Seen
+pub mod Deciding
 pub mod Links
 pub mod Opened
 pub mod Outputs

@@ -7,7 +7,7 @@ ghost use Rattle.instant_net.specs.Opened.{IsNet};
 ghost use Rattle.instant_net.specs.WordParts.{part_at, part_of, word_of};
 ghost use Rattle.instant_net.specs.Words.{lub, signals, tell_part, value_by, value_in, FitsPart, JoinsParts};
 ghost use Rattle.instant_net.specs.Limits.{most_leaves, most_roots};
-ghost use Rattle.instant_net.specs.Laws.{NetsAreStratified, NetsHaveRootOutputs, NetsRestByLeaves, NetsRestByRoots, RootsHaveOneNet};
+ghost use Rattle.instant_net.specs.Laws.{LeavesTellFew, NetsAreStratified, NetsHaveRootOutputs, NetsRestByLeaves, NetsRestByRoots, RootsHaveOneNet};
 
 use crate::opening::{MAX_LEAVES, MAX_ROOTS};
 
@@ -40,6 +40,11 @@ pub fn net_outputs_law()
 /// and leaves included.
 pub fn one_net_law()
     ensures { RootsHaveOneNet }
+{}
+
+/// A leaf tells 16 tokens at most: as many as a constraint of a program has.
+pub fn few_tokens_law()
+    ensures { LeavesTellFew }
 {}
 
 /// What is told to a part of a word is told to that part alone, where two bits of a signal are set; and the join of two

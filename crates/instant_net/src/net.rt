@@ -5,8 +5,10 @@ ghost use Rattle.instant_net.specs.Words.{hows, signals};
 ghost use Rattle.instant_net.specs.Opened.{IsNet};
 
 mod cells;
+mod deciding;
 mod guards;
 mod leaves;
+mod parts;
 
 use crate::layout::{count_signals, count_words, signal_words};
 use crate::parts::{NetCell, NetGuard, NetLeaf};

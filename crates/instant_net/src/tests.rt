@@ -10,6 +10,7 @@ mod fronts;
 mod making;
 mod packing;
 mod reading;
+mod seeing;
 mod telling;
 
 use agent_core::{CellDecl, Closure, Constraint, Levels, Name, Node, Program};

@@ -1,18 +1,22 @@
 //! The words in which what is told is kept.
-ghost use Rattle.std.specs.Prelude.{◌≡◌, ◌<◌, length, set, slice_get, slice_index, slice_index_or};
+ghost use Rattle.std.specs.Prelude.{◌≡◌, ◌<◌, IfOk, length, set, slice_get, slice_index, slice_index_or};
 ghost use Rattle.instant_net.specs.Words.{empty_words, hows, lub as lub_of, tell_atoms, tell_word, AreWords, Lies, store_in};
 ghost use Rattle.instant_net.specs.declared.words.How.TheVariants.{Or};
 ghost use Rattle.instant_net.specs.Nets.{named_atoms};
 ghost use Rattle.instant_net.specs.NamedLeaves.{tell_named};
 ghost use Rattle.instant_net.specs.Readers.{leaf_tells_of};
+ghost use Rattle.instant_net.specs.Seen.{join_words};
 
 mod reading;
 mod stores;
 
 use crate::net::Net;
 pub use reading::{has, holds, reaches, runs, value};
+use std::alloc::Global;
 use std::marker::Model;
+pub(crate) use stores::untold;
 pub use stores::{declared_store, open_words, words_store};
+use token_system::Memory;
 
 /// How what is told to a word changes it.
 #[derive(Clone, Copy, Debug, PartialEq, Eq)]
@@ -77,12 +81,37 @@ impl Words {
     }
 
     /// Tells the bits to the word.
-    fn take(&mut self, told: Told)
+    pub(crate) fn take(&mut self, told: Told)
         requires { told.word < length self.old }
         ensures { self.new ≡ tell_word self.old told }
     {
         let word = self.at(told.word);
         self.list[told.word as usize] = told.how.lub(word, told.bits);
+    }
+
+    /// The same words again.
+    pub fn copy(&self, alloc: Global) -> Result<Words, Memory>
+        ensures { IfOk result (λ words. words ≡ self.now) }
+    {
+        Ok(Words {
+            list: self.list().to_vec(alloc)?,
+        })
+    }
+
+    /// Tells each word of the others to the one of its place.
+    pub(crate) fn join(&mut self, net: &Net, others: &Words)
+        requires words { AreWords net.now.cells self.old }
+        requires others { AreWords net.now.cells others.now }
+        ensures joined { self.new ≡ join_words (hows net.now.cells) self.old others.now }
+        ensures words { AreWords net.now.cells self.new }
+    {
+        for word in 0..net.words() {
+            self.take(Told {
+                word,
+                how: net.how(word),
+                bits: others.at(word),
+            });
+        }
     }
 }
 

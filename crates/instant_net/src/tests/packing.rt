@@ -12,12 +12,12 @@ use std::alloc::Global;
 use std::test::Fail;
 use token_system::{Cell, Token, Value};
 
-const UNTOLD: Value = Value::Signal {
+pub(super) const UNTOLD: Value = Value::Signal {
     on: false,
     off: false,
 };
 
-const ON: Value = Value::Signal {
+pub(super) const ON: Value = Value::Signal {
     on: true,
     off: false,
 };
@@ -72,7 +72,7 @@ fn net_around(
 }
 
 /// 33 signals: 16, the number, 16 more, and the local one. Cell 32 is signal 31, and cell 33 signal 32.
-fn net_of_33(alloc: Global, tokens: [(u32, Token); 2]) -> Result<Net, Fail> {
+pub(super) fn net_of_33(alloc: Global, tokens: [(u32, Token); 2]) -> Result<Net, Fail> {
     let kinds = signals_around(alloc, 16, 16)?;
     net_around(alloc, kinds.as_slice(), tokens, 16, 33)
 }

@@ -31,7 +31,7 @@ pub fn open_words(alloc: Global, net: &Net, input: &Store) -> Result<Words, Memo
 }
 
 /// The words of which nothing is told.
-fn untold(alloc: Global, net: &Net) -> Result<Words, Memory>
+pub(crate) fn untold(alloc: Global, net: &Net) -> Result<Words, Memory>
     ensures told { IfOk result (λ words. words ≡ empty_words net.now.cells) }
     ensures words { IfOk result (AreWords net.now.cells) }
 {
