@@ -11,7 +11,7 @@ use Rattle.instant_net.specs.Nets.{Flat}
 use Rattle.instant_net.specs.Opened.{IsNetOf}
 use Rattle.instant_net.specs.Outputs as net
 use Rattle.instant_net.specs.Laws.{NetsAreStratified, NetsHaveRootOutputs}
-use Rattle.settle.specs.Ways.{IsOnNetWay}
+use Rattle.net_laws.specs.Ways.{IsOnNetWay}
 
 module _ (one : RootsHaveOneOutput) (stratified : NetsAreStratified) (outs : NetsHaveRootOutputs)
     (p : CoreProgram) (table : List ℕ) (strat : Stratifies p table) (rs : List Closure) (t : ℕ) (flat : Flat) (of : IsNetOf p table rs t flat)

@@ -17,14 +17,15 @@ use Rattle.instant_net.specs.Outputs.{IsStoreOf}
 use Rattle.instant_net.specs.Readers.{least_stratum, leaf_tells_of}
 use Rattle.instant_net.specs.Words.{store_in, AreWords}
 use Rattle.instant_net.proofs.WordStores.{words-store}
-use Rattle.settle.specs.Ways.{IsOnNetWay, Advances, has_told, is_level_upto, is_leaf_due, untold}
-use Rattle.settle.proofs.NetTells.{NamedFits, entails-above, named-fits, tell-all}
-use Rattle.settle.proofs.NetSystem.{level_or, level_of, tells, each-by_get}
-use Rattle.settle.proofs.Settling.{tell-on_way, stratum-on_way}
+use Rattle.net_laws.specs.Ways.{IsOnNetWay, has_told}
+use Rattle.net_laws.proofs.NetTells.{NamedFits, entails-above, named-fits, tell-all}
+use Rattle.net_laws.proofs.NetSystem.{level_or, level_of, tells, each-by_get}
+use Rattle.net_laws.proofs.Settling.{tell-on_way, stratum-on_way}
+use Rattle.settle.specs.Ways.{Advances, is_level_upto, is_leaf_due, untold}
 
 -- WHICH LEAVES ARE DUE
 
-upto_level : (s k : ℕ) (o : Option ℕ) → IsTrue (is_level_upto k o) → level_or s o ≤ k
+pub upto_level : (s k : ℕ) (o : Option ℕ) → IsTrue (is_level_upto k o) → level_or s o ≤ k
 upto_level s k None h = absurd (true_false (sym h))
 upto_level s k (Some m) h = grind (arith, nat_tests)
 
@@ -85,7 +86,7 @@ untold-less net u w (x ∷ ls) (suc n) l h at e f =
     go false false g le = omega arith
 
 module _ (net : Flat) (is : IsNet net) where
-  leaf-fits : (n : ℕ) (l : NetLeaf) → slice_get net.leaves n ≡ Some l → Each (NamedFits net.cells) (tells net l)
+  pub leaf-fits : (n : ℕ) (l : NetLeaf) → slice_get net.leaves n ≡ Some l → Each (NamedFits net.cells) (tells net l)
   leaf-fits n l at = named-fits net.cells (atoms_of l.kind) (all_each (AtomFits net.cells) (atoms_of l.kind) (each_at (LeafIsWhole net) net.leaves n l (all_each (LeafIsWhole net) net.leaves is.of.whole.leaves) at).0)
 
   -- telling what one leaf tells leaves fewer

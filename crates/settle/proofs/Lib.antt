@@ -1,4 +1,8 @@
-pub mod NetTells
-pub mod NetSystem
-pub mod Settling
 pub mod LeafPasses
+pub mod Noting
+pub mod ToldAsks
+pub mod RunChanges
+pub mod Looks
+pub mod Evaluating
+pub mod OneLook
+pub mod WatchedLevels

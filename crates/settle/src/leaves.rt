@@ -22,7 +22,7 @@ pub(crate) fn is_due(net: &Net, words: &Words, leaf: u32, stratum: u32) -> bool
 }
 
 /// Whether there is a level, and it is at most the stratum.
-fn is_upto(level: Option<u32>, stratum: u32) -> bool
+pub(crate) fn is_upto(level: Option<u32>, stratum: u32) -> bool
     ensures { result ≡ ways.is_level_upto stratum level }
 {
     match level {
@@ -32,7 +32,7 @@ fn is_upto(level: Option<u32>, stratum: u32) -> bool
 }
 
 /// Whether the words entail each token that the leaf tells.
-fn has_told(net: &Net, words: &Words, leaf: u32) -> bool
+pub(crate) fn has_told(net: &Net, words: &Words, leaf: u32) -> bool
     requires leaf { leaf < length net.now.leaves }
     requires words { AreWords net.now.cells words.now }
     ensures { result ≡ entails_of (store_in net.now.cells words.now) (named_atoms net.now.cells (leaf_tells_of (slice_get net.now.leaves leaf))) }

@@ -4,7 +4,8 @@ ghost use Rattle.token_system.specs.Stores.{StoreMap};
 ghost use Rattle.instant_net.specs.Opened.{IsNet};
 ghost use Rattle.instant_net.specs.Outputs.{IsNetOutput, IsStratified};
 ghost use Rattle.instant_net.specs.Words.{store_in, AreWords};
-ghost use Rattle.settle.specs.Ways.{untold, Advances, IsOnNetWay};
+ghost use Rattle.net_laws.specs.Ways.{IsOnNetWay};
+ghost use Rattle.settle.specs.Ways.{untold, Advances};
 ghost use Rattle.settle.specs.Ways as ways;
 
 use crate::leaves::is_due;

@@ -6,9 +6,10 @@ ghost use Rattle.agent_core.specs.WellFormed.{IsWellFormed};
 ghost use Rattle.agent_laws.specs.Laws.{AreClosures};
 ghost use Rattle.instant_net.specs.Words.{AreWords};
 
-use crate::{settle, settle_stratum};
+use crate::{settle, settle_instant, settle_stratum};
 use agent_core::{CellDecl, Closure, Constraint, Levels, Name, Node, Program};
 use instant_net::{Net, Words, open_net, open_words, words_store};
+use parked_asks::Watch;
 use std::alloc::Global;
 use std::test::Fail;
 use token_system::{Births, Cell, CellName, Kind, Store, Token, Value};
@@ -104,16 +105,28 @@ fn opened(alloc: Global, program: &Program) -> Result<(Net, Words), Fail>
         Ok(net) => net,
         Err(_) => return Err(Fail::from("no net")),
     };
-    let words = open_words(alloc, &net, &Store::new(alloc))?;
+    let words = unknown(alloc, &net)?;
     Ok((net, words))
 }
 
-/// The store that the first instant ends in, where the input tells nothing.
+/// The words of which nothing is told.
+fn unknown(alloc: Global, net: &Net) -> Result<Words, Fail>
+    ensures { IfOk result (AreWords net.now.cells) }
+{
+    Ok(open_words(alloc, net, &Store::new(alloc))?)
+}
+
+/// The store that the first instant ends in, where the input tells nothing, whether by passes over all leaves or by a watch.
 fn settled(alloc: Global, program: &Program) -> Result<Store, Fail>
     requires { IsWellFormed program.now }
 {
     let (net, mut words) = opened(alloc, program)?;
     settle(&net, &mut words, 0);
+    let mut watched = unknown(alloc, &net)?;
+    settle_instant(alloc, &net, &mut watched)?;
+    if watched.list() != words.list() {
+        return Err(Fail::from("the words differ"));
+    }
     Ok(words_store(alloc, &net, &words)?)
 }
 
@@ -201,6 +214,24 @@ fn a_default_waits_for_what_forbids_it(rt: HostRuntime) -> Result<(), Fail> {
     let store = settled(rt.alloc(), &over_signals(rt.alloc(), 2, nodes)?)?;
     assert!(rt; is_on(&store, 0));
     assert_eq!(rt; store.len(), 1);
+    Ok(())
+}
+
+/// `signal a, b, c; if a else b || if b else c`: `a` is asked for by guard 0, `b` by guard 1, and `c` by none.
+#[test]
+fn a_cell_is_watched_by_the_guards_that_name_it(rt: HostRuntime) -> Result<(), Fail> {
+    let mut nodes = Vec::new(rt.alloc());
+    nodes.push(Node::Par { left: 1, right: 3 })?;
+    push_else(rt.alloc(), &mut nodes, 0, 2, 1)?;
+    push_else(rt.alloc(), &mut nodes, 1, 4, 2)?;
+    let (net, _) = opened(rt.alloc(), &over_signals(rt.alloc(), 3, nodes)?)?;
+    let watch = Watch::open(rt.alloc(), &net)?;
+    if net.cells() != 3 {
+        return Err(Fail::from("not three cells"));
+    }
+    assert!(rt; watch.of(0) == [0].as_slice());
+    assert!(rt; watch.of(1) == [1].as_slice());
+    assert!(rt; watch.of(2).is_empty());
     Ok(())
 }
 

@@ -19,7 +19,7 @@ use Rattle.instant_net.specs.Outputs as net
 use Rattle.instant_net.specs.Laws.{NetsAreStratified, NetsHaveRootOutputs}
 use Rattle.residuals.specs.RootLists.{listed_roots}
 use Rattle.run_book.specs.Books.{BookView, IsBook, KeepsRun}
-use Rattle.settle.specs.Ways.{IsOnNetWay}
+use Rattle.net_laws.specs.Ways.{IsOnNetWay}
 use Rattle.tdcc_tool.specs.Steps.{count_now}
 
 -- the roots that a book keeps are closures of its program

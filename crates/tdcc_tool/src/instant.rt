@@ -16,7 +16,7 @@ use instant_net::{
     Net, NetFault, Words, net_outputs_law, open_net, open_words, stratified_net_law,
 };
 use run_book::Book;
-use settle::settle;
+use settle::settle_instant;
 use std::alloc::Global;
 use token_system::Store;
 
@@ -53,6 +53,6 @@ pub fn output_of(
         limit,
     )?;
     let mut words = open_words(alloc, &net, input)?;
-    settle(&net, &mut words, 0);
+    settle_instant(alloc, &net, &mut words)?;
     Ok((net, words))
 }

@@ -1,6 +1,6 @@
 use Rattle.std.proofs.Common.{arith}
 use Rattle.instant_net.specs.Words.{store_in}
-use Rattle.settle.proofs.Settling.{end-on_way}
+use Rattle.net_laws.proofs.Settling.{end-on_way}
 use Rattle.settle.proofs.passes.settle.Goals as goal
 
 pub loop-stratum-preserved : goal.loop-stratum-preserved

@@ -21,13 +21,13 @@ returns c =
     let counted : ℕ = length (root_leaves c.program.result.now c.deref.result.now c.instants.result) in
     let few = few-leaves c.open_net.result net (NetFull counted) counted c.args.limit c.in_ok-net.was c.open_net.ensures.full in
     let output = completed b c.program.ensures.book c.args.input.now c.requires.input c.by_roots_law.ensures.closures c.one_output_law.ensures c.stratified_net_law.ensures c.net_outputs_law.ensures net of
-    (store_in net.cells c.in_ok-words.words) (store_in net.cells c.settle.new.words) c.in_ok-words.ensures.store c.settle.ensures.settled in
+    (store_in net.cells c.in_ok-words.words) (store_in net.cells c.settle_instant.new.words) c.in_ok-words.ensures.store c.in_ok-settle_instant.ensures.settled in
     record {
       net = of;
       words = search rules;
       output = output;
       run = output-of-run b c.program.ensures.book c.args.input.now c.requires.input c.by_roots_law.ensures.closures c.one_output_law.ensures c.stratified_net_law.ensures c.net_outputs_law.ensures net of
-          (store_in net.cells c.settle.new.words) output;
+          (store_in net.cells c.settle_instant.new.words) output;
       small = subst (λ (n : ℕ). n ≤ c.args.limit) (count-of-book b c.program.result.now c.deref.result.now c.instants.result c.program.ensures.program roots c.instants.ensures) few;
       counted = λ leaves e. absurd (cc);
       full = λ leaves e. absurd (cc);

@@ -18,8 +18,8 @@ use Rattle.instant_net.specs.NamedLeaves.{NamedGuard, told_by, named_entails, na
 use Rattle.instant_net.specs.Nets.{Flat, named_atoms, named_kind, named_leaf, net_leaves, atoms_of}
 use Rattle.instant_net.specs.Opened.{IsNet}
 use Rattle.instant_net.specs.Outputs.{IsNetStoreBelow, IsNetOutput, IsStratified}
-use Rattle.settle.specs.Ways.{IsNetStoreBelowUpto, IsOnNetWay, has_told}
-use Rattle.settle.proofs.NetSystem.{level_of, tells, LeafStands, system, leaves-stand, each-by_get, of_upto}
+use Rattle.net_laws.specs.Ways.{IsNetStoreBelowUpto, IsOnNetWay, has_told}
+use Rattle.net_laws.proofs.NetSystem.{level_of, tells, LeafStands, system, leaves-stand, each-by_get, of_upto}
 
 -- TO RUN A LEAF IS TO FREE ITS PATH AND TO ANSWER ITS ASKS
 
@@ -73,7 +73,7 @@ list_all-map f g [] = refl
 list_all-map f g (x ∷ xs) = ap (λ b. f (g x) && b) (list_all-map f g xs)
 
 module _ (net : Flat) (is : IsNet net) (strat : IsStratified net) where
-  abbrev sys : System
+  abbrev pub sys : System
   sys = system net is strat
 
   to_leaves : (u v : StoreMap) → IsTrue (leaves_rest (net_leaves net) u v) → Each (flat.LeafRests sys v u) net.leaves
@@ -92,7 +92,7 @@ module _ (net : Flat) (is : IsNet net) (strat : IsStratified net) where
   by_strata u w h k c t at lt = h c t at
 
   module _ (i v : StoreMap) (out : IsNetOutput net i v) where
-    of_leaves : flat.IsOutput sys net.leaves i v
+    pub of_leaves : flat.IsOutput sys net.leaves i v
     of_leaves = record {
       store = out.store;
       above = by_strata i v out.above;

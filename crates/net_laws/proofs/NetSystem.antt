@@ -10,7 +10,7 @@ use Rattle.agent_core.proofs.Bools.{both, first_of_both, second_of_both}
 use Rattle.agent_core.proofs.OneStore.{Below-antisym}
 use Rattle.agent_core.specs.Names.{cell_named}
 use Rattle.agent_laws.proofs.Eachs.{Each-append, all_each, each_at}
-use Rattle.agent_laws.proofs.Instance.{not_up, cell_within}
+use Rattle.agent_laws.proofs.Instance.{not_up}
 use Rattle.agent_laws.proofs.System.{System}
 use Rattle.instant_net.specs.declared.parts.Atom.{Atom}
 use Rattle.instant_net.specs.declared.parts.NetCell.{NetCell}
@@ -18,15 +18,15 @@ use Rattle.instant_net.specs.declared.parts.NetGuard.{NetGuard}
 use Rattle.instant_net.specs.declared.parts.NetLeaf.{NetLeaf}
 use Rattle.instant_net.specs.NamedLeaves.{Named, NamedGuard, named_holds, named_entails, named_asked, named_free, tell_named}
 use Rattle.instant_net.specs.Nets.{Flat, named_atoms, named_guard, named_leaf, path_to, paths_from, IsAtOrAbove, here, above, IsLinkBelow, AtomFits, LeafIsWhole, atoms_of}
-use Rattle.agent_core.specs.StrataCounts.{strata_of}
 use Rattle.instant_net.specs.Opened.{IsCellOf, IsNet}
 use Rattle.instant_net.specs.Outputs.{IsStoreOf, IsNetStoreBelow, IsStratified}
 use Rattle.instant_net.specs.Readers.{lesser, least_stratum, stratum_of}
 use Rattle.instant_net.proofs.Lists.{same-elements}
+use Rattle.instant_net.proofs.LevelBounds.{stratum-below}
 use Rattle.instant_net.proofs.NetOutputs as outputs
 use Rattle.instant_net.proofs.NetPaths.{path-of}
-use Rattle.settle.specs.Ways.{IsNetStoreBelowUpto}
-use Rattle.settle.proofs.NetTells.{NamedFits, holds-up, entails-up, entails-above, named-each, named-fits, tell-all}
+use Rattle.net_laws.specs.Ways.{IsNetStoreBelowUpto}
+use Rattle.net_laws.proofs.NetTells.{NamedFits, holds-up, entails-up, entails-above, named-each, named-fits, tell-all}
 
 -- LISTS
 
@@ -62,12 +62,6 @@ level-least cells s m (a ∷ b ∷ atoms) le =
     let x : m ≤ stratum_of (slice_get cells a.cell) = omega arith in
     let y : m ≤ lesser (stratum_of (slice_get cells b.cell)) o = omega arith in
     (x, level-least cells s m (b ∷ atoms) y)
-
--- each number of the table is below the count of strata
-strata-above : (table : List ℕ) (k : ℕ) → k < length table → slice_index table k < strata_of table
-strata-above [] k lt = absurd (omega arith)
-strata-above (n ∷ table) zero lt = omega arith
-strata-above (n ∷ table) (suc k) lt = let h = strata-above table k (omega arith) in omega arith
 
 -- PATHS
 
@@ -158,16 +152,6 @@ module _ (net : Flat) (is : IsNet net) where
   same-stratum : (c d : NetCell) → Contains net.cells c → Contains net.cells d → c.name ≡ d.name → c.stratum ≡ d.stratum
   same-stratum c d at there e = (cell-of c at).stratum ∙ ap (λ n. slice_index is.table (cell_named is.program n)) e ∙ sym (cell-of d there).stratum
 
-  pub stratum-below : (c : NetCell) → Contains net.cells c → c.stratum < net.strata
-  stratum-below c at =
-      let one = cell-of c at in
-      let within = cell_within is.program c.name one.decl one.named in
-      let long = is.of.long in
-      let low = strata-above is.table (cell_named is.program c.name) (omega arith) in
-      let a = one.stratum in
-      let b = is.of.strata in
-      omega arith
-
   pub of_upto : (u w : StoreMap) → ((k : ℕ) → IsNetStoreBelowUpto net.cells k u w) → IsNetStoreBelow net.cells u w
   of_upto u w h c t at = h (suc c.stratum) c t at (omega arith)
 
@@ -216,8 +200,8 @@ module _ (net : Flat) (is : IsNet net) where
                 outputs_fit a within = All-contains (AtomFits net.cells) g.ask a (is.of.whole.guards k g s).0 within
 
                 top : (b : Bool) (c : NetCell) → Contains net.cells c → c.stratum + (if b then 1 else 0) ≤ net.strata
-                top true c at_c = let x = stratum-below c at_c in omega arith
-                top false c at_c = let x = stratum-below c at_c in omega arith
+                top true c at_c = let x = stratum-below net is c at_c in omega arith
+                top false c at_c = let x = stratum-below net is c at_c in omega arith
 
                 under : (a : Atom) → Contains g.ask a → (f : AtomFits net.cells a) → (b : Atom) → Contains (atoms_of l.kind) b → f.0.stratum + (if g.negative then 1 else 0) ≤ stratum_of (slice_get net.cells b.cell)
                 under a within f b told =
@@ -267,7 +251,7 @@ module _ (net : Flat) (is : IsNet net) where
       Upto-none = λ u w c t at lt. absurd (omega arith);
       Upto-refl = λ k u c t at lt fits h. h;
       Upto-trans = λ k u v w a b c t at lt fits h. b c t at lt fits (a c t at lt fits h);
-      Upto-all = λ u w h k c t at lt. h c t at (stratum-below c at);
+      Upto-all = λ u w h k c t at lt. h c t at (stratum-below net is c at);
       one = one-store;
       on-up = λ l k u w f lt upto. asked-up net.cells k (level_of net l) u w upto (named_leaf net l).path lt f.path;
       off-up = λ l k u w f le upto. not_up (list_all (named_free u) (named_leaf net l).path) (list_all (named_free w) (named_leaf net l).path) (free-down net.cells k (level_of net l) u w upto (named_leaf net l).path le f.path);

@@ -1,0 +1,4 @@
+pub mod Ways
+pub mod WordsBelow
+pub mod FinalWords
+pub mod Laws

@@ -1,0 +1,4 @@
+pub mod HeldLists
+pub mod Numbers
+pub mod Adds
+pub mod Listings
