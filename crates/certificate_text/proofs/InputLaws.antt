@@ -1,40 +1,30 @@
 -- An `in` line gives the input of which it was written, and no other.
-use Rattle.std.proofs.Common.{◌≡◌, ℕ, ◌+◌, ◌≤◌, Bool, true, false, cond, List, [], ◌∷◌, ◌++◌, length, None, Some, refl, sym, ap, ◌∙◌, subst, arith}
-use Rattle.std.specs.Prelude.{Option, codes, slice_get}
-use Rattle.std.specs.FinMap.{get, empty, insert, get-empty, get-insert}
+use Rattle.std.proofs.Common.{◌≡◌, ℕ, ◌+◌, ◌≤◌, Bool, true, false, List, [], ◌∷◌, ◌++◌, length, refl, sym, ap, ◌∙◌, subst, arith}
+use Rattle.std.specs.Prelude.{codes}
+use Rattle.std.specs.FinMap.{empty}
 use Rattle.std.specs.List.{slice_split}
-use Rattle.std.specs.Ordering.{eq_by_cmp}
 use Rattle.std.proofs.lemmas.List.{append-nil}
 use Rattle.std.proofs.lemmas.List.Splits.{slice_split_at}
-use Rattle.token_system.specs.declared.cell.Cell.{Cell}
-use Rattle.token_system.specs.declared.cell.Token.{Token}
-use Rattle.token_system.specs.declared.cell.Value.{Value}
-use Rattle.token_system.specs.declared.name.CellName.{CellName}
 use Rattle.token_system.specs.declared.name.CellName.TheVariants.{Declared}
-use Rattle.token_system.specs.Names.{name_cmp, name_total}
-use Rattle.token_system.specs.Values.{value_eq, value_with, bottom_of}
-use Rattle.token_system.specs.Stores.{StoreMap, value_at, after_tell}
-use Rattle.token_system.proofs.Telling.{equal_names}
-use Rattle.agent_core.specs.declared.node.CellDecl.{CellDecl}
+use Rattle.token_system.specs.Stores.{StoreMap}
 use Rattle.agent_core.specs.Agents.{Constraint}
 use Rattle.agent_core.specs.Programs.{CoreProgram}
-use Rattle.agent_core.specs.Scope.{ConstraintFits}
 use Rattle.agent_core.specs.Stores.{IsInput}
-use Rattle.agent_core.specs.Tellings.{tell_at, tell_all}
+use Rattle.agent_core.specs.Tellings.{tell_all}
 use Rattle.agent_core.proofs.Tellings.{empty-IsStore, tell_all-least}
 use Rattle.agent_laws.proofs.Eachs.{each_all}
 use Rattle.trace_text.specs.Fields.{Field, fields, is_blank, is_some}
 use Rattle.trace_text.specs.Inputs.{DenoteAll, GivesInput}
 use Rattle.trace_text.specs.Limits.{longest_store_line}
 use Rattle.trace_text.specs.StoreLines.{store_line}
-use Rattle.trace_text.proofs.DeclaredTokens.{in_scope}
-use Rattle.trace_text.proofs.GivenInputs.{DeclaredOnly, told_input, one_input}
+use Rattle.trace_text.proofs.GivenInputs.{told_input, one_input}
 use Rattle.trace_text.proofs.LineWalks.{fields_from}
 use Rattle.trace_text.proofs.ReadBack.{line_read, line_short}
 use Rattle.trace_text.proofs.Sayings.{say_all_fit, say_all_one, say_all-middle}
 use Rattle.certificate_text.specs.BadPlaces.{IsFirstUnread, no_field, other_word, later_field, long, unread}
 use Rattle.certificate_text.specs.InLines.{line_behind, SaysTokens, TellsBehindWord}
 use Rattle.certificate_text.specs.Laws.{InputsReadBack, LinesGiveInputs, LinesGiveOneInput, GivenLinesAreGood}
+use Rattle.certificate_text.proofs.KeptNames.{only-empty, only-declared}
 use Rattle.certificate_text.proofs.PartWalks.{field_first, field_skipped}
 
 -- ONE INPUT
@@ -72,35 +62,13 @@ is_good p line i place x (unread short h) = none_unread p (fields line) i place 
 
 -- A STORE OVER THE DECLARED CELLS
 
-one_more_declared : (s : StoreMap) (k : ℕ) (v : Value) → DeclaredOnly s → DeclaredOnly (insert s (Declared k) v)
-one_more_declared s k v only n w e = go (eq_by_cmp name_cmp n (Declared k)) refl
-  where
-    go : (b : Bool) → eq_by_cmp name_cmp n (Declared k) ≡ b → (j : ℕ) × (n ≡ Declared j)
-    go true t = (k, equal_names n (Declared k) t)
-    go false t = only n w (sym (get-insert name_total s (Declared k) v n ∙ ap (λ b. cond b (Some v) (get s n)) t) ∙ e)
-
-told_declared : (s : StoreMap) (k : ℕ) (c : Cell) (t : Token) → DeclaredOnly s → DeclaredOnly (after_tell s (Declared k) c t)
-told_declared s k c t only = go (value_eq (value_with (value_at s (Declared k) c) t) (bottom_of c))
-  where
-    go : (b : Bool) → DeclaredOnly (cond b s (insert s (Declared k) (value_with (value_at s (Declared k) c) t)))
-    go true = only
-    go false = one_more_declared s k (value_with (value_at s (Declared k) c) t) only
-
-tell_all_declared : (p : CoreProgram) (ask : Constraint) (s : StoreMap) → ConstraintFits p [] ask → DeclaredOnly s → DeclaredOnly (tell_all p [] ask s)
-tell_all_declared p [] s fits only = only
-tell_all_declared p (pair ∷ ask) s fits only = tell_all_declared p ask (tell_at (slice_get p.cells pair.0) p [] s pair.0 pair.1) fits.1 (go (slice_get p.cells pair.0))
-  where
-    go : (o : Option CellDecl) → DeclaredOnly (tell_at o p [] s pair.0 pair.1)
-    go None = only
-    go (Some d) = subst (λ (n : CellName). DeclaredOnly (after_tell s n d.cell pair.1)) (sym (in_scope p pair fits.0)) (told_declared s pair.0 d.cell pair.1 only)
-
 pub gives_input : LinesGiveInputs
 gives_input p line i x =
     let r = x.told in
     let fits = say_all_fit p r.behind r.told.tokens r.told.said in
     subst (IsInput p) (sym r.told.told) (record {
       store = (tell_all-least p [] r.told.tokens empty (empty-IsStore p) fits).store;
-      declared = tell_all_declared p r.told.tokens empty fits (λ n v e. absurd (let h : None ≡ Some v = sym (get-empty name_cmp n) ∙ e in cc));
+      declared = only-declared (λ n. (k : ℕ) × (n ≡ Declared k)) p (λ k. (k, refl)) r.told.tokens empty fits (only-empty (λ n. (k : ℕ) × (n ≡ Declared k)));
     })
 
 -- WHAT WAS WRITTEN
@@ -149,11 +117,14 @@ behind_short : (line : List ℕ) → length (line_behind (codes "in") line) ≤ 
 behind_short [] = omega arith
 behind_short (b ∷ line) = omega arith
 
+-- an input is what the tokens of its line tell
+pub input_told : (p : CoreProgram) (line : List ℕ) (i : StoreMap) (given : GivesInput p line i) → i ≡ tell_all p [] given.tokens empty
+input_told p line i given = one_input p line i (tell_all p [] given.tokens empty) given (told_input p line given.tokens (tell_all p [] given.tokens empty) given.short given.said refl)
+
 pub reads_back : InputsReadBack
 reads_back p i program names input =
     let given : GivesInput p (store_line p i) i = line_read p i i program names (record { input = input; same = λ n lt. refl }) in
-    let again : GivesInput p (store_line p i) (tell_all p [] given.tokens empty) = told_input p (store_line p i) given.tokens (tell_all p [] given.tokens empty) given.short given.said refl in
-    let told : i ≡ tell_all p [] given.tokens empty = one_input p (store_line p i) i (tell_all p [] given.tokens empty) given again in
+    let told : i ≡ tell_all p [] given.tokens empty = input_told p (store_line p i) i given in
     let few : length (store_line p i) ≤ longest_store_line = line_short p i program names input.store in
     record {
       short = let more = behind_short (store_line p i) in omega arith;

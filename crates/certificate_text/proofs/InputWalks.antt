@@ -21,7 +21,7 @@ use Rattle.certificate_text.specs.BadPlaces.{IsFirstUnread, IsFaultAt, unread, o
 use Rattle.certificate_text.specs.InLines.{SaysTokens, TellsBehindWord, IsInputBadAt, IsReadUpTo}
 
 -- each field of a list that says tokens says some
-all_say : (p : CoreProgram) (all : List Field) (tokens : Constraint) → DenoteAll p all tokens → Each (λ f. SaysTokens p f.bytes) all
+pub all_say : (p : CoreProgram) (all : List Field) (tokens : Constraint) → DenoteAll p all tokens → Each (λ f. SaysTokens p f.bytes) all
 all_say p [] tokens h = tt
 all_say p (field ∷ later) tokens (first, rest, here, others, e) = ((first, here), all_say p later rest others)
 

@@ -5,4 +5,14 @@ pub mod LocalTokenTexts
 pub mod OutTexts
 pub mod LocalTokenLaws
 pub mod InputWalks
+pub mod KeptNames
 pub mod InputLaws
+pub mod OutWalks
+pub mod LocalCellFacts
+pub mod LocalSayings
+pub mod OutLaws
+pub mod ValuesTold
+pub mod LineParts
+pub mod LocalTexts
+pub mod OutBack
+pub mod LineFeeds

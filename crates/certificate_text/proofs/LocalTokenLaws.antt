@@ -1,6 +1,6 @@
 -- The text of a token of a local cell says one thing, and reads back as it was written.
 use Rattle.std.proofs.Common.{◌≡◌, ℕ, zero, suc, ◌+◌, ◌<◌, ◌≤◌, ◌^◌, Bool, true, false, cond, ℤ, List, [], ◌∷◌, ◌++◌, length, take, drop, get_or, Option, Some, None, refl, sym, ap, ◌∙◌, subst, append_assoc, arith}
-use Rattle.std.specs.Prelude.{All, IsTrue, codes, decimal, flat_map, nat_lt, not, unwrap_or, ◌==◌}
+use Rattle.std.specs.Prelude.{All, IsTrue, codes, nat_lt, not, unwrap_or, ◌==◌}
 use Rattle.std.specs.Fmt.{signed_decimal}
 use Rattle.std.specs.List.{position_or_len, slice_split}
 use Rattle.std.proofs.lemmas.Bool.Decides.{nat_tests}
@@ -20,12 +20,12 @@ use Rattle.token_system.proofs.ByKind as by
 use Rattle.token_system.proofs.OneReading.{one_reading}
 use Rattle.token_system.proofs.ReadBack.{number-signed_decimal}
 use Rattle.agent_core.specs.Strata.{Each}
-use Rattle.agent_laws.proofs.Eachs.{all_each, Each-append}
+use Rattle.agent_laws.proofs.Eachs.{all_each}
 use Rattle.trace_text.specs.StoreLines.{exact_text}
 use Rattle.certificate_text.specs.LocalNames.{is_dot, local_name_of, local_text, naturals_of, numbered_name}
 use Rattle.certificate_text.specs.LocalTokens.{begins_tail, name_end, IsLocalTokenText, off, clash, plain}
 use Rattle.certificate_text.specs.Laws.{LocalTokensSayOne, LocalTokensReadBack, LocalValuesReadBack}
-use Rattle.certificate_text.proofs.NameTexts.{digit_is_not, decimal_avoids, names_law}
+use Rattle.certificate_text.proofs.NameTexts.{digit_is_not, name_avoids, names_law}
 
 -- ONE READING
 
@@ -38,12 +38,12 @@ one_local_tail rest f g s t a b =
     (ap (λ (w : Written). w.first) same, ap (λ (w : Written). w.second) same)
 
 -- what begins with another byte than `@` is no name of a local cell
-no_local_name : (mark : ℕ) (text : List ℕ) (k : ℕ) (name : CellName) → mark == 64 ≡ false → local_name_of (take k (mark ∷ text)) ≡ Some name → ⊥
+pub no_local_name : (mark : ℕ) (text : List ℕ) (k : ℕ) (name : CellName) → mark == 64 ≡ false → local_name_of (take k (mark ∷ text)) ≡ Some name → ⊥
 no_local_name mark text zero name other e = absurd (cc)
 no_local_name mark text (suc k) name other e =
     let none : None ≡ Some name = sym (ap (λ b. cond b (numbered_name (naturals_of (slice_split is_dot (take k text)))) None) other) ∙ e in absurd (cc)
 
-marked_plain : (bytes text : List ℕ) (mark : ℕ) (name : CellName) → bytes ≡ mark ∷ text → mark == 64 ≡ false → local_name_of (take (name_end bytes) bytes) ≡ Some name → ⊥
+pub marked_plain : (bytes text : List ℕ) (mark : ℕ) (name : CellName) → bytes ≡ mark ∷ text → mark == 64 ≡ false → local_name_of (take (name_end bytes) bytes) ≡ Some name → ⊥
 marked_plain bytes text mark name parts other e = no_local_name mark text (name_end bytes) name other (ap (λ (bs : List ℕ). local_name_of (take (name_end bytes) bs)) (sym parts) ∙ e)
 
 one_name : (xs ys : List ℕ) (m n : CellName) → xs ≡ ys → local_name_of xs ≡ Some m → local_name_of ys ≡ Some n → m ≡ n
@@ -67,14 +67,8 @@ one_local_token bytes m n f g s t (plain a x) (clash y e' b p' q') = absurd (mar
 digit_no_tail : (b : ℕ) → is_digit b ≡ true → begins_tail b ≡ false
 digit_no_tail b digit = rw (digit_is_not b 62 refl digit, digit_is_not b 60 refl digit, digit_is_not b 61 refl digit) refl
 
-births_no_tail : (births : List ℕ) → Each (λ b. b < 10 ^ 9) births → Each (λ b. begins_tail b ≡ false) (flat_map (λ birth. codes "." ++ decimal birth) births)
-births_no_tail [] small = tt
-births_no_tail (b ∷ births) small =
-    (refl, Each-append (λ b. begins_tail b ≡ false) (decimal b) (flat_map (λ birth. codes "." ++ decimal birth) births) (decimal_avoids begins_tail digit_no_tail b small.0) (births_no_tail births small.1))
-
 name_no_tail : (node : ℕ) (births : List ℕ) → node < 10 ^ 9 → Each (λ b. b < 10 ^ 9) births → Each (λ b. begins_tail b ≡ false) (local_text node births)
-name_no_tail node births lt small =
-    (refl, Each-append (λ b. begins_tail b ≡ false) (decimal node) (flat_map (λ birth. codes "." ++ decimal birth) births) (decimal_avoids begins_tail digit_no_tail node lt) (births_no_tail births small))
+name_no_tail = name_avoids begins_tail digit_no_tail refl refl
 
 -- what begins no tail is passed over
 place_behind : (name rest : List ℕ) → Each (λ b. begins_tail b ≡ false) name → position_or_len begins_tail (name ++ rest) ≡ length name + position_or_len begins_tail rest

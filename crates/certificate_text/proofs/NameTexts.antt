@@ -13,8 +13,8 @@ use Rattle.names_and_numbers.proofs.Bools.{and_left, and_right}
 use Rattle.names_and_numbers.proofs.Printed.{decimal_digits}
 use Rattle.token_system.proofs.ReadBack.{few_decimal}
 use Rattle.agent_core.specs.Strata.{Each}
-use Rattle.agent_laws.proofs.Eachs.{all_each, each_all}
-use Rattle.certificate_text.specs.LocalNames.{is_dot, number_before, naturals_of, numbered_name}
+use Rattle.agent_laws.proofs.Eachs.{all_each, each_all, Each-append}
+use Rattle.certificate_text.specs.LocalNames.{is_dot, local_text, number_before, naturals_of, numbered_name}
 use Rattle.certificate_text.specs.Laws.{NamesReadBack}
 
 -- NUMBERS THAT ARE WRITTEN
@@ -44,6 +44,17 @@ module _ (test : ℕ → Bool) (none : (b : ℕ) → is_digit b ≡ true → tes
 
   pub decimal_avoids : (n : ℕ) → n < 10 ^ 9 → Each (λ b. test b ≡ false) (decimal n)
   decimal_avoids n lt = numeral_avoids (decimal n) (decimal_digits n (omega arith))
+
+-- and so do the bytes of a name of a local cell, which are digits, `@` and `.`
+module _ (test : ℕ → Bool) (none : (b : ℕ) → is_digit b ≡ true → test b ≡ false) (at : test 64 ≡ false) (dot : test 46 ≡ false) where
+  births_avoid : (births : List ℕ) → Each (λ b. b < 10 ^ 9) births → Each (λ b. test b ≡ false) (flat_map (λ birth. codes "." ++ decimal birth) births)
+  births_avoid [] small = tt
+  births_avoid (b ∷ births) small =
+      (dot, Each-append (λ b. test b ≡ false) (decimal b) (flat_map (λ birth. codes "." ++ decimal birth) births) (decimal_avoids test none b small.0) (births_avoid births small.1))
+
+  pub name_avoids : (node : ℕ) (births : List ℕ) → node < 10 ^ 9 → Each (λ b. b < 10 ^ 9) births → Each (λ b. test b ≡ false) (local_text node births)
+  name_avoids node births lt small =
+      (at, Each-append (λ b. test b ≡ false) (decimal node) (flat_map (λ birth. codes "." ++ decimal birth) births) (decimal_avoids test none node lt) (births_avoid births small))
 
 decimal_no_dot : (n : ℕ) → n < 10 ^ 9 → All (λ b. is_dot b ≡ false) (decimal n)
 decimal_no_dot n lt = each_all (λ b. is_dot b ≡ false) (decimal n) (decimal_avoids is_dot (λ b digit. digit_is_not b 46 refl digit) n lt)

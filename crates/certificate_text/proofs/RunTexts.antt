@@ -5,6 +5,7 @@ use Rattle.std.specs.List.{slice_split}
 use Rattle.std.specs.Cmp.Lexicographic.{pointwise}
 use Rattle.std.proofs.lemmas.List.{append-nil}
 use Rattle.std.proofs.lemmas.List.Splits.{slice_split_none, slice_split_at}
+use Rattle.names_and_numbers.specs.Names.{is_digit}
 use Rattle.names_and_numbers.specs.Numbers.{natural_of_text, are_digits}
 use Rattle.names_and_numbers.proofs.Printed.{decimal_digits}
 use Rattle.agent_core.specs.Strata.{Each}
@@ -23,10 +24,11 @@ numeral_some : (ds : List ℕ) → are_digits ds ≡ true → is_some ds ≡ tru
 numeral_some [] h = h
 numeral_some (d ∷ ds) h = refl
 
+pub digit_no_blank : (b : ℕ) → is_digit b ≡ true → is_blank b ≡ false
+digit_no_blank b digit = rw (digit_is_not b 32 refl digit, digit_is_not b 9 refl digit, digit_is_not b 13 refl digit) refl
+
 decimal_no_blank : (n : ℕ) → n < 10 ^ 9 → All (λ b. is_blank b ≡ false) (decimal n)
-decimal_no_blank n lt =
-    each_all (λ b. is_blank b ≡ false) (decimal n)
-    (decimal_avoids is_blank (λ b digit. rw (digit_is_not b 32 refl digit, digit_is_not b 9 refl digit, digit_is_not b 13 refl digit) refl) n lt)
+decimal_no_blank n lt = each_all (λ b. is_blank b ≡ false) (decimal n) (decimal_avoids is_blank digit_no_blank n lt)
 
 decimal_some : (n : ℕ) → n < 10 ^ 9 → is_some (decimal n) ≡ true
 decimal_some n lt = numeral_some (decimal n) (decimal_digits n (omega arith))

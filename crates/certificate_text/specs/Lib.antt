@@ -1,8 +1,11 @@
 pub mod Limits
 pub mod LocalNames
 pub mod LocalTokens
+pub mod LocalCells
 pub mod BadPlaces
 pub mod InLines
 pub mod OutLines
+pub mod OutReadings
 pub mod RunLines
+pub mod EntryTexts
 pub mod Laws

@@ -3,10 +3,11 @@ ghost use Rattle.std.specs.Prelude.{◌≡◌, ◌<◌, ◌^◌, [], IfErr, IfSo
 ghost use Rattle.agent_core.specs.Stores.{IsStore};
 ghost use Rattle.agent_core.specs.Scope.{ConstraintFits, TokenFits};
 ghost use Rattle.agent_core.specs.Tellings.{tell_all};
-ghost use Rattle.trace_text.specs.Inputs.{declared_cell as number_of, text_fits as text_fits_cell, tokens_of, Denotes};
+ghost use Rattle.trace_text.specs.Inputs.{declared_cell as number_of, tokens_of, Denotes};
 ghost use Rattle.trace_text.specs.Tellings.{told_one, TellsField};
 ghost use Rattle.certificate_text.specs.BadPlaces.{IsFaultAt};
 ghost use Rattle.certificate_text.specs.InLines.{SaysTokens};
+ghost use Rattle.certificate_text.specs.LocalCells.{both_fit as tokens_fit};
 
 use crate::fault::EntryLineFault;
 use agent_core::Program;
@@ -23,19 +24,19 @@ fn cell_named(program: &Program, name: &[u8]) -> Option<usize>
         .position(|decl| decl.name.bytes() == name)
 }
 
-/// Whether each token that the text means fits the cell.
-fn text_fits(cell: Cell, written: Written) -> bool
-    ensures { result ≡ text_fits_cell cell written }
+/// Whether a token fits the cell, and a second one, where there is one.
+pub fn both_fit(cell: Cell, first: Token, second: Option<Token>) -> bool
+    ensures { result ≡ tokens_fit cell first second }
 {
-    fits(cell, written.first)
-        && match written.second {
+    fits(cell, first)
+        && match second {
             Some(second) => fits(cell, second),
             None => true,
         }
 }
 
 /// What the bytes say of a declared cell, if they do: its number, and what is written of it.
-fn said_of_declared(program: &Program, bytes: &[u8]) -> Option<(u32, Written)>
+pub fn said_of_declared(program: &Program, bytes: &[u8]) -> Option<(u32, Written)>
     ensures said { IfSome result (λ said. Denotes program.now bytes.now (tokens_of said.0 said.1)) }
     ensures none { IsNone result → ¬ (SaysTokens program.now bytes.now) }
 {
@@ -46,7 +47,7 @@ fn said_of_declared(program: &Program, bytes: &[u8]) -> Option<(u32, Written)>
     let Some(cell) = cell_named(program, name) else {
         return None;
     };
-    if !text_fits(program.cells()[cell].cell, written) {
+    if !both_fit(program.cells()[cell].cell, written.first, written.second) {
         return None;
     }
     Some((cell as u32, written))
@@ -63,7 +64,7 @@ fn tell(program: &Program, cell: u32, token: Token, store: &mut Store) -> Result
 }
 
 /// Tells the tokens that a text means, of this declared cell.
-fn tell_written(
+pub fn tell_written(
     program: &Program,
     cell: u32,
     written: Written,

@@ -11,7 +11,7 @@ use std::alloc::Global;
 use token_system::{CellName, Memory, Store, Value};
 
 /// The cell that the node makes, if it is a new node.
-fn made_by(program: &Program, node: u32) -> Option<&CellDecl>
+pub fn made_by(program: &Program, node: u32) -> Option<&CellDecl>
     ensures { option_copied result ≡ cell_made program.now.cells (slice_get program.now.nodes node) }
 {
     match program.nodes().get(node as usize) {

@@ -11,7 +11,7 @@ use std::test::Fail;
 use token_system::{Births, Cell, CellName, Kind, Store, Token, Value};
 
 /// A signal.
-fn signal() -> Cell {
+pub fn signal() -> Cell {
     Cell {
         kind: Kind::Signal,
         lo: 0,
@@ -20,7 +20,7 @@ fn signal() -> Cell {
 }
 
 /// A number from -5 to 10.
-fn number() -> Cell {
+pub fn number() -> Cell {
     Cell {
         kind: Kind::Number,
         lo: -5,
@@ -29,7 +29,7 @@ fn number() -> Cell {
 }
 
 /// `signal s; int x in -5..10; new int n in -5..10 in new signal t in skip`.
-fn two_declared_and_two_local(alloc: Global) -> Result<Program, Fail> {
+pub fn two_declared_and_two_local(alloc: Global) -> Result<Program, Fail> {
     let mut cells = Vec::new(alloc);
     for (name, cell) in [
         (b"s", signal()),
@@ -53,7 +53,7 @@ fn two_declared_and_two_local(alloc: Global) -> Result<Program, Fail> {
 }
 
 /// Keeps this value for the local cell of this node under these births.
-fn keep_local(
+pub fn keep_local(
     alloc: Global,
     store: &mut Store,
     node: u32,

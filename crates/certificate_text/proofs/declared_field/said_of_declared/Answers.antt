@@ -16,8 +16,8 @@ returns-in_default-cell_named-clause-none c = λ _ says.
     (refl, c.in-Ok.written, c.in-Ok.ensures.read, sym c.in_default-cell_named.ensures.number)
 
 -- its token does not fit the cell
-pub returns-then-not-text_fits-clause-none : goal.returns-then-not-text_fits-clause-none
-returns-then-not-text_fits-clause-none c = λ _ says.
+pub returns-then-not-both_fit-clause-none : goal.returns-then-not-both_fit-clause-none
+returns-then-not-both_fit-clause-none c = λ _ says.
     said_not_refused c.args.program.now (record { offset = 0; bytes = c.args.bytes.now }) says.0 (WrongKind 0) says.1 (λ e. cc) (
       refl,
       c.in-Ok.written,
@@ -28,7 +28,7 @@ returns-then-not-text_fits-clause-none c = λ _ says.
         named = sym c.in-Some.ensures.number;
         found = cell_read c.args.program.now c.cells.result.now (name_in c.args.bytes.now c.in-Ok.written) c.in-Some.cell c.index-cells-cell.result c.cells.ensures.program.limits.within c.cells.ensures.all (sym c.in-Some.ensures.number) c.index-cells-cell.is;
       },
-      ap (λ (d : CellDecl). text_fits d.cell c.in-Ok.written) c.index-cells-cell.is ∙ sym c.text_fits.ensures ∙ c.if-not-text_fits.true,
+      ap (λ (d : CellDecl). text_fits d.cell c.in-Ok.written) c.index-cells-cell.is ∙ sym c.both_fit.ensures ∙ c.if-not-both_fit.true,
     )
 
 pub returns-clause-said : goal.returns-clause-said
@@ -41,6 +41,6 @@ returns-clause-said c = record {
     named = sym c.in-Some.ensures.number;
     found = cell_read c.args.program.now c.cells.result.now (name_in c.args.bytes.now c.in-Ok.written) c.in-Some.cell c.index-cells-cell.result c.cells.ensures.program.limits.within c.cells.ensures.all (sym c.in-Some.ensures.number) c.index-cells-cell.is;
   };
-  fits = ap (λ (d : CellDecl). text_fits d.cell c.in-Ok.written) c.index-cells-cell.is ∙ sym c.text_fits.ensures ∙ c.if-not-text_fits.false;
+  fits = ap (λ (d : CellDecl). text_fits d.cell c.in-Ok.written) c.index-cells-cell.is ∙ sym c.both_fit.ensures ∙ c.if-not-both_fit.false;
   meant = refl;
 }
