@@ -1,0 +1,10 @@
+pub mod Net
+pub mod Layout
+pub mod Lists
+pub mod Notes
+pub mod Views
+pub mod Effects
+pub mod Invariant
+pub mod Licences
+pub mod Opening
+pub mod Laws

@@ -1,0 +1,6 @@
+pub mod Cuts
+pub mod NoneNamed
+pub mod CellWords
+pub mod OneWord
+pub mod OneStep
+pub mod Objects

@@ -1,0 +1,3 @@
+pub mod WordNames
+pub mod StepLines
+pub mod Laws
