@@ -19,7 +19,7 @@ use Rattle.instant_net.proofs.WordPlaces.{as_many}
 use Rattle.net_laws.specs.WordsBelow.{AtomWithin, AllWithin, how_at, is_under}
 use Rattle.net_laws.proofs.ToldWords.{in-range, told-how}
 use Rattle.net_laws.proofs.FinalWords.{leaves-fit}
-use Rattle.instant_core.proofs.LeafLevels.{under-least}
+use Rattle.net_laws.proofs.RestingWords.{under-least}
 use Rattle.instant_core.specs.Net as nets
 use Rattle.net_laws.specs.FinalWords.{AreFinal}
 use Rattle.instant_core.specs.Net.{told_stratum, tells_at, word_and_bits, Entails, Runs, TellsWords, tells_count, IsLow}

@@ -1,4 +1,3 @@
-pub mod LeafLevels
 pub mod Order
 pub mod Places
 pub mod SeenWords

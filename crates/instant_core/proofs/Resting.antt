@@ -21,8 +21,7 @@ use Rattle.net_laws.proofs.Settling.{runs-parts, parts-run}
 use Rattle.net_laws.specs.WordsBelow.{how_at, is_under}
 use Rattle.net_laws.specs.FinalWords.{RunsLeaf}
 use Rattle.net_laws.specs.Laws.{IsFinalUpto, IsRest, IsDone}
-use Rattle.net_laws.proofs.RestingWords.{rest-done}
-use Rattle.instant_core.proofs.LeafLevels.{under-level}
+use Rattle.net_laws.proofs.RestingWords.{rest-done, under-level}
 use Rattle.net_laws.proofs.PartPlaces.{word_there, part_there, stratum_of_part}
 use Rattle.net_laws.proofs.RisingWords.{parts_below}
 use Rattle.instant_net.specs.Outputs.{IsStratified}

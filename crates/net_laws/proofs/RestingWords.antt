@@ -43,7 +43,7 @@ use Rattle.net_laws.proofs.FinalWords.{leaves-fit}
 -- LEVELS
 
 -- one cell below p puts the level below p
-under-least : (cells : List NetCell) (p : ℕ) (atoms : List Atom) (k : ℕ) (a : Atom) → slice_get atoms k ≡ Some a → stratum_of (slice_get cells a.cell) < p → IsTrue (is_under p (least_stratum cells atoms))
+pub under-least : (cells : List NetCell) (p : ℕ) (atoms : List Atom) (k : ℕ) (a : Atom) → slice_get atoms k ≡ Some a → stratum_of (slice_get cells a.cell) < p → IsTrue (is_under p (least_stratum cells atoms))
 under-least cells p [] k a e lt = absurd (cc)
 under-least cells p (b ∷ atoms) zero a e lt =
     let same : b ≡ a = cc in go (least_stratum cells atoms) (subst (λ (x : Atom). stratum_of (slice_get cells x.cell) < p) (sym same) lt)
@@ -62,7 +62,7 @@ level-under : (strata p k : ℕ) (o : Option ℕ) → p ≤ strata → k < p →
 level-under strata p k None a b h = absurd (omega arith)
 level-under strata p k (Some m) a b h = grind (arith, nat_tests)
 
-under-level : (strata p : ℕ) (o : Option ℕ) → IsTrue (is_under p o) → level_or strata o < p
+pub under-level : (strata p : ℕ) (o : Option ℕ) → IsTrue (is_under p o) → level_or strata o < p
 under-level strata p None h = absurd (true_false (sym h))
 under-level strata p (Some m) h = grind (arith, nat_tests)
 
