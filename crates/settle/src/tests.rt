@@ -263,6 +263,27 @@ fn a_chain_is_told_to_its_end(rt: HostRuntime) -> Result<(), Fail> {
     Ok(())
 }
 
+/// `signal a0, .., a70; if a69 then a70 || {.. {if a0 then a1 || a0}}`: 71 leaves, so many that a watch is opened, and each
+/// of the signals is told.
+#[test]
+fn a_chain_of_71_leaves_is_told_to_its_end(rt: HostRuntime) -> Result<(), Fail> {
+    let mut nodes = Vec::new(rt.alloc());
+    for link in 0..70 {
+        nodes.push(Node::Par {
+            left: 3 * link + 1,
+            right: 3 * link + 3,
+        })?;
+        push_then(rt.alloc(), &mut nodes, 69 - link, 3 * link + 2, 70 - link)?;
+    }
+    nodes.push(Node::Tell(on(rt.alloc(), 0)?))?;
+    let store = settled(rt.alloc(), &over_signals(rt.alloc(), 71, nodes)?)?;
+    for cell in 0..71 {
+        assert!(rt; is_on(&store, cell));
+    }
+    assert_eq!(rt; store.len(), 71);
+    Ok(())
+}
+
 /// `int n in 0..7; n >= 5 || n <= 3`: a clash.
 #[test]
 fn bounds_that_cross_are_a_clash(rt: HostRuntime) -> Result<(), Fail> {

@@ -13,12 +13,16 @@ ghost use Rattle.settle.specs.Ways.{Advances};
 
 use crate::asking::note_asks;
 use crate::looking::{look_at_level, look_below};
+use crate::passes::settle;
 use instant_net::{Net, Steps, Words};
 use parked_asks::Watch;
 use std::alloc::Global;
 use std::marker::Brand;
 use std::sync::ledger::{Blank, Ledger};
 use token_system::Memory;
+
+/// How many leaves a net has at most for which passes over all of them cost less than the opening of a watch.
+const FEW_LEAVES: u32 = 64;
 
 /// Completes the instant as `settle` does, and evaluates asks through `ask_holds` alone: each once, and each again where a
 /// leaf tells a token of a cell that it names. It takes no memory. What the watch notes afterwards is of use to it alone.
@@ -48,8 +52,8 @@ pub fn settle_watched<L: Ledger>(
     }
 }
 
-/// Completes the instant, whose words are those of its input, by `settle_watched` with a watch of its own. Without memory for
-/// the watch the words stay as they are.
+/// Completes the instant, whose words are those of its input: by passes where the net has few leaves, else by
+/// `settle_watched` with a watch of its own. Without memory for the watch the words stay as they are.
 pub fn settle_instant(alloc: Global, net: &Net, words: &mut Words) -> Result<(), Memory>
     requires words { AreWords net.now.cells words.old }
     ensures words { AreWords net.now.cells words.new }
@@ -58,6 +62,10 @@ pub fn settle_instant(alloc: Global, net: &Net, words: &mut Words) -> Result<(),
         → store_in net.now.cells words.new ≡ output) }
     ensures memory { OnErr result (words.new ≡ words.old) }
 {
+    if net.leaves() <= FEW_LEAVES {
+        settle(net, words, 0);
+        return Ok(());
+    }
     let mut watch = Watch::open(alloc, net)?;
     settle_uncounted::<Brand>(net, words, &mut watch, Blank::new(1));
     Ok(())
